@@ -1,0 +1,179 @@
+-- Laws of the color table: what was packed is found again, digit by digit, and the entry at a pixel's index is that pixel.
+use mathlib.Core.Bool.{Bool, true, false}
+use mathlib.Core.Path.{_≡_, refl, sym, ap, _∙_, subst}
+use Prim.Native.Nat.{ℕ, zero, suc, _+_, _-_, _*_, _/_, _%_, _^_, _<_, _≤_}
+use native.Mathlib.Nat.{not-suc-le-zero, le-of-suc-le-suc, zero-add, add-zero, pow-zero, pow-suc, pow-succ', div-one, mul-comm, mod-eq-of-lt, div-eq-of-lt, add-mul-mod-self-left, add-mul-div-left, div-div-eq-div-mul, zero-lt-suc, mod-lt, div-add-mod', div-lt-iff-lt-mul, le-div-iff-mul-le, suc-mul, div-mul-le-self, one-mul, lt-of-lt-of-le}
+use native.Mathlib.Omega.{arith}
+use borrow.Author.Tests.{ltb-true, leb-true, leb-false, lt-ltb}
+use lib.Arith.{digits-lt, digits-div, digits-mod}
+use lib.Dec.{ltb, leb, lit<}
+use Rattle.format.specs.Choice.{if_then_else_, every}
+use Rattle.format.specs.declared.Pixel.{Pixel}
+use Rattle.format.specs.Pixel.{equal}
+use Rattle.format.specs.Picture.{Picture, ceiling}
+use Rattle.format.specs.ColorTable.{perPixel, range, packedWidth, indexIn, entry, unpacked, lowest, indexOf, hasEntry, accepted, digits, indexAt, packed}
+use Rattle.format.proofs.Choice.{every-at}
+use Rattle.format.proofs.Pixels.{equal-true, equal-refl, Bytes}
+
+-- ---- the lowest index
+
+pub lowest-from : (e : Picture) (v : Pixel) (k i : ℕ) → i ≤ lowest e v k i
+unfolding lowest
+lowest-from e v zero i = omega arith
+lowest-from e v (suc k) i = go (equal (e i) v) (lowest-from e v k (suc i))
+  where
+    go : (b : Bool) → suc i ≤ lowest e v k (suc i) → i ≤ (if b then i else lowest e v k (suc i))
+    go true ih = omega arith
+    go false ih = omega arith
+
+pub lowest-hit : (e : Picture) (v : Pixel) (k i : ℕ) → lowest e v k i < i + k → e (lowest e v k i) ≡ v
+unfolding lowest
+lowest-hit e v zero i l = absurd (no l)
+  where
+    no : i < i + 0 → ⊥
+    no l = omega arith
+lowest-hit e v (suc k) i l = go (equal (e i) v) refl l (lowest-hit e v k (suc i))
+  where
+    go : (b : Bool) → equal (e i) v ≡ b → (if b then i else lowest e v k (suc i)) < i + suc k → (lowest e v k (suc i) < suc i + k → e (lowest e v k (suc i)) ≡ v)
+        → e (if b then i else lowest e v k (suc i)) ≡ v
+    go true q m ih = equal-true (e i) v q
+    go false q m ih = ih (omega arith)
+
+-- an entry that equals v is not below it
+pub lowest-least : (e : Picture) (v : Pixel) (k i j : ℕ) → i ≤ j → e j ≡ v → j < i + k → lowest e v k i ≤ j
+unfolding lowest
+lowest-least e v zero i j a q l = omega arith
+lowest-least e v (suc k) i j a q l = go (equal (e i) v) refl (lowest-least e v k (suc i) j)
+  where
+    other : equal (e i) v ≡ false → i ≡ j → ⊥
+    other r p =
+        let t : equal (e i) v ≡ true = rw p (rw q (equal-refl v)) in
+        let z : _≡_ {A = Bool} true false = sym t ∙ r in
+        let n : _≡_ {A = ℕ} 0 1 = cc in
+        omega arith
+
+    go : (b : Bool) → equal (e i) v ≡ b → (suc i ≤ j → e j ≡ v → j < suc i + k → lowest e v k (suc i) ≤ j) → (if b then i else lowest e v k (suc i)) ≤ j
+    go true r ih = a
+    go false r ih = let n = other r in ih (omega arith) q (omega arith)
+
+-- ---- how many indices go into a byte
+
+pub record Places (size n : ℕ) : Type 0 where
+  pub fits : size ≤ range n
+  pub whole : range n ^ n ≡ 256
+  pub some : 0 < range n
+  pub many : 0 < n
+
+pub places : (size : ℕ) → size ≤ 256 → Places size (perPixel size)
+unfolding perPixel
+places size l =
+    go (leb size 2) (leb size 4) (leb size 16) (leb-true size 2) (leb-true size 4) (leb-true size 16)
+  where
+    go : (a b c : Bool) → (a ≡ true → size ≤ 2) → (b ≡ true → size ≤ 4) → (c ≡ true → size ≤ 16) → Places size (if a then 8 else if b then 4 else if c then 2 else 1)
+    go true b c x y z = record { fits = x refl; whole = refl; some = lit< tt; many = lit< tt }
+    go false true c x y z = record { fits = y refl; whole = refl; some = lit< tt; many = lit< tt }
+    go false false true x y z = record { fits = z refl; whole = refl; some = lit< tt; many = lit< tt }
+    go false false false x y z = record { fits = l; whole = refl; some = lit< tt; many = lit< tt }
+
+pub perPixel-pos : (size : ℕ) → 0 < perPixel size
+unfolding perPixel
+perPixel-pos size = go (leb size 2) (leb size 4) (leb size 16)
+  where
+    go : (a b c : Bool) → 0 < (if a then 8 else if b then 4 else if c then 2 else 1)
+    go true b c = lit< tt
+    go false true c = lit< tt
+    go false false true = lit< tt
+    go false false false = lit< tt
+
+-- ---- digits
+
+module _ (u : ℕ) (pos : 0 < u) where
+  pub digits-below : (n : ℕ) (g : ℕ → ℕ) → ((k : ℕ) → k < n → g k < u) → digits u n g < u ^ n
+  unfolding digits
+  digits-below zero g h = rw (pow-zero u) (zero-lt-suc 0)
+  digits-below (suc n) g h =
+      let P = digits u n (λ k. g (suc k)) in
+      let e : P * u + g 0 ≡ g 0 + u * P = omega (arith, mul-comm P u) in
+      subst (λ (z : ℕ). z < u ^ suc n) e
+      (subst (λ (z : ℕ). P * u + g 0 < z) (sym (pow-suc u n)) (digits-lt (digits-below n (λ k. g (suc k)) (λ k l. h (suc k) (omega arith))) (h 0 (omega arith))))
+
+  pub digit : (n : ℕ) (g : ℕ → ℕ) (j : ℕ) → ((k : ℕ) → k < n → g k < u) → j < n → digits u n g / u ^ j % u ≡ g j
+  unfolding digits
+  digit zero g j h l = absurd (not-suc-le-zero l)
+  digit (suc n) g zero h l =
+      let P = digits u n (λ k. g (suc k)) in
+      rw (pow-zero u, div-one (g 0 + u * P)) (add-mul-mod-self-left (g 0) u P ∙ mod-eq-of-lt (h 0 (omega arith)))
+  digit (suc n) g (suc j) h l =
+      let P = digits u n (λ k. g (suc k)) in
+      let whole : (g 0 + u * P) / u ≡ P = add-mul-div-left (g 0) P pos ∙ ap (λ (z : ℕ). z + P) (div-eq-of-lt (h 0 (omega arith))) ∙ zero-add P in
+      ap (λ (z : ℕ). (g 0 + u * P) / z % u) (pow-succ' u j)
+      ∙ ap (λ (z : ℕ). z % u) (sym (div-div-eq-div-mul (g 0 + u * P) u (u ^ j)))
+      ∙ ap (λ (z : ℕ). z / u ^ j % u) whole
+      ∙ digit n (λ k. g (suc k)) j (λ k m. h (suc k) (omega arith)) (le-of-suc-le-suc l)
+
+-- ---- columns
+
+-- column x is packed inside the row
+pub column-packed : (w n x : ℕ) → 0 < n → x < w → x / n < ceiling w n
+column-packed w n x pos l = le-div-iff-mul-le pos .1 (omega (arith, suc-mul (x / n) n, div-mul-le-self x n))
+
+pub ceiling-pos : (w n : ℕ) → 0 < w → 0 < n → 0 < ceiling w n
+ceiling-pos w n p q = le-div-iff-mul-le q .1 (omega (arith, one-mul n))
+
+-- ---- rebuilding undoes storing
+
+module _ (w h size : ℕ) (e f : Picture) (pos : 0 < w) (least : size ≤ 256) (taken : accepted size e (h * w) f ≡ true) where
+  abbrev n : ℕ
+  n = perPixel size
+
+  index-below : (q : ℕ) → q < h * w → indexOf size e (f q) < size
+  index-below q l = ltb-true (indexOf size e (f q)) size (every-at (h * w) (λ p. hasEntry size e (f p)) q l taken)
+
+  digit-small : (y : ℕ) → y < h → (x : ℕ) → indexAt w size e f y x < range n
+  digit-small y l x = go (ltb x w) (ltb-true x w)
+    where
+      go : (b : Bool) → (b ≡ true → x < w) → (if b then indexOf size e (f (y * w + x)) else 0) < range n
+      go true t = lt-of-lt-of-le (index-below (y * w + x) (digits-lt l (t refl))) (places size least .fits)
+      go false t = places size least .some
+
+  pub entry-at-index : (q : ℕ) → q < h * w → entry size e (indexOf size e (f q)) ≡ f q
+  entry-at-index q l = rw (lt-ltb (indexOf size e (f q)) size (index-below q l)) (lowest-hit e (f q) size 0 (rw (zero-add size) (index-below q l)))
+
+  pub packed-bytes : (r : ℕ) → r < h * packedWidth size w → Bytes (packed w size e f r)
+  unfolding packed
+  packed-bytes r l =
+      let y = r / packedWidth size w in
+      let j = r % packedWidth size w in
+      let below : y < h = div-lt-iff-lt-mul (ceiling-pos w n pos (perPixel-pos size)) .1 l in
+      record {
+        red = lit< tt;
+        green = subst (λ (z : ℕ). digits (range n) n (λ k. indexAt w size e f y (j * n + k)) < z) (places size least .whole)
+            (digits-below (range n) (places size least .some) n (λ k. indexAt w size e f y (j * n + k)) (λ k m. digit-small y below (j * n + k)));
+        blue = lit< tt;
+        alpha = lit< tt;
+      }
+
+  pub unpacked-packed : (q : ℕ) → q < h * w → unpacked w size e (packed w size e f) q ≡ f q
+  unfolding unpacked packed
+  unpacked-packed q l = ap (entry size e) found ∙ entry-at-index q l
+    where
+      x : ℕ
+      x = q % w
+
+      y : ℕ
+      y = q / w
+
+      inside : x < w
+      inside = mod-lt q pos
+
+      below : y < h
+      below = div-lt-iff-lt-mul pos .1 l
+
+      column : x / n < packedWidth size w
+      column = column-packed w n x (perPixel-pos size) inside
+
+      found : indexIn n (packed w size e f (y * packedWidth size w + x / n) .green) (x % n) ≡ indexOf size e (f q)
+      found =
+          rw (digits-div y column, digits-mod y column)
+          (digit (range n) (places size least .some) n (λ k. indexAt w size e f y (x / n * n + k)) (x % n) (λ k m. digit-small y below (x / n * n + k)) (mod-lt x (perPixel-pos size))
+          ∙ rw (div-add-mod' x n, lt-ltb x w inside) (ap (λ (z : ℕ). indexOf size e (f z)) (div-add-mod' q w)))

@@ -1,0 +1,55 @@
+-- Laws of pixels whose channels are bytes.
+use mathlib.Core.Bool.{Bool, true, false, _&&_}
+use mathlib.Core.Path.{_≡_, refl, sym}
+use Prim.Native.Nat.{ℕ, _<_}
+use borrow.Author.Tests.{eqb-true, eq-eqb}
+use lib.Dec.{eqb}
+use Rattle.format.specs.declared.Pixel.{Pixel}
+use Rattle.format.specs.Byte.{add, sub}
+use Rattle.format.specs.Pixel.{pixel, each, equal}
+use Rattle.format.proofs.Choice.{and-left, and-right, and-both}
+use Rattle.format.proofs.Byte.{add-sub, sub-add, add-byte, sub-byte}
+
+pub record Bytes (v : Pixel) : Type 0 where
+  pub red : v .red < 256
+  pub green : v .green < 256
+  pub blue : v .blue < 256
+  pub alpha : v .alpha < 256
+
+pub add-bytes : (u v : Pixel) → Bytes (each add u v)
+add-bytes u v = record {
+  red = add-byte (u .red) (v .red);
+  green = add-byte (u .green) (v .green);
+  blue = add-byte (u .blue) (v .blue);
+  alpha = add-byte (u .alpha) (v .alpha);
+}
+
+pub sub-bytes : (u v : Pixel) → Bytes (each sub u v)
+sub-bytes u v = record {
+  red = sub-byte (u .red) (v .red);
+  green = sub-byte (u .green) (v .green);
+  blue = sub-byte (u .blue) (v .blue);
+  alpha = sub-byte (u .alpha) (v .alpha);
+}
+
+pub each-add-sub : (u v : Pixel) → Bytes u → each add (each sub u v) v ≡ u
+each-add-sub u v h =
+    λ k. pixel (add-sub (u .red) (v .red) (h .red) k) (add-sub (u .green) (v .green) (h .green) k) (add-sub (u .blue) (v .blue) (h .blue) k) (add-sub (u .alpha) (v .alpha) (h .alpha) k)
+
+pub each-sub-add : (u v : Pixel) → Bytes u → each sub (each add u v) v ≡ u
+each-sub-add u v h =
+    λ k. pixel (sub-add (u .red) (v .red) (h .red) k) (sub-add (u .green) (v .green) (h .green) k) (sub-add (u .blue) (v .blue) (h .blue) k) (sub-add (u .alpha) (v .alpha) (h .alpha) k)
+
+-- the test says what it should
+pub equal-true : (u v : Pixel) → equal u v ≡ true → u ≡ v
+equal-true u v e =
+    let rg = and-left (eqb (u .red) (v .red) && eqb (u .green) (v .green)) (eqb (u .blue) (v .blue) && eqb (u .alpha) (v .alpha)) e in
+    let ba = and-right (eqb (u .red) (v .red) && eqb (u .green) (v .green)) (eqb (u .blue) (v .blue) && eqb (u .alpha) (v .alpha)) e in
+    let r = eqb-true (u .red) (v .red) (and-left (eqb (u .red) (v .red)) (eqb (u .green) (v .green)) rg) in
+    let g = eqb-true (u .green) (v .green) (and-right (eqb (u .red) (v .red)) (eqb (u .green) (v .green)) rg) in
+    let b = eqb-true (u .blue) (v .blue) (and-left (eqb (u .blue) (v .blue)) (eqb (u .alpha) (v .alpha)) ba) in
+    let a = eqb-true (u .alpha) (v .alpha) (and-right (eqb (u .blue) (v .blue)) (eqb (u .alpha) (v .alpha)) ba) in
+    λ k. pixel (r k) (g k) (b k) (a k)
+
+pub equal-refl : (v : Pixel) → equal v v ≡ true
+equal-refl v = rw (eq-eqb (v .red) (v .red) refl, eq-eqb (v .green) (v .green) refl, eq-eqb (v .blue) (v .blue) refl, eq-eqb (v .alpha) (v .alpha) refl)

@@ -1,0 +1,120 @@
+-- Laws of the predictor transform: a prediction reads earlier pixels alone, so storing and rebuilding undo each other.
+use mathlib.Core.Path.{_≡_, refl, sym, ap, _∙_}
+use Prim.Native.Nat.{ℕ, zero, suc, _+_, _-_, _*_, _/_, _%_, _<_, _≤_}
+use native.Mathlib.Nat.{div-add-mod', mod-lt, not-suc-le-zero, suc-mul, le-refl}
+use native.Mathlib.Decide.{ℕ-discrete}
+use native.Mathlib.Omega.{arith}
+use borrow.Author.Tests.{eqb-true, eqb-false, lt-ltb, le-ltb}
+use lib.Dec.{eqb}
+use Rattle.format.specs.declared.Pixel.{Pixel}
+use Rattle.format.specs.Byte.{add, sub, distance}
+use Rattle.format.specs.Pixel.{each}
+use Rattle.format.specs.Picture.{Picture, inOrder, paint}
+use Rattle.format.specs.Predictor.{select, distanceTo, predict, predicted, residuals, gained, fromResiduals}
+use Rattle.format.proofs.Choice.{if-same}
+use Rattle.format.proofs.Pixels.{Bytes, each-add-sub, each-sub-add}
+use Rattle.format.proofs.Picture.{paint-at, paint-other, inOrder-ahead, inOrder-at, inOrder-kept}
+
+-- ---- select
+
+-- the sum over four channels of |u - v|
+abbrev pub between : Pixel → Pixel → ℕ
+between u v = distance (u .red) (v .red) + distance (u .green) (v .green) + distance (u .blue) (v .blue) + distance (u .alpha) (v .alpha)
+
+shift-left : (l t tl : ℕ) → distance (l + t) (tl + l) ≡ distance t tl
+shift-left l t tl = omega arith
+
+shift-top : (l t tl : ℕ) → distance (l + t) (tl + t) ≡ distance l tl
+shift-top l t tl = omega arith
+
+to-left : (l t tl : Pixel) → distanceTo l l t tl ≡ between t tl
+to-left l t tl =
+    cc (
+      shift-left (l .red) (t .red) (tl .red),
+      shift-left (l .green) (t .green) (tl .green),
+      shift-left (l .blue) (t .blue) (tl .blue),
+      shift-left (l .alpha) (t .alpha) (tl .alpha),
+    )
+
+to-top : (l t tl : Pixel) → distanceTo t l t tl ≡ between l tl
+to-top l t tl =
+    cc (
+      shift-top (l .red) (t .red) (tl .red),
+      shift-top (l .green) (t .green) (tl .green),
+      shift-top (l .blue) (t .blue) (tl .blue),
+      shift-top (l .alpha) (t .alpha) (tl .alpha),
+    )
+
+pub select-left : (l t tl : Pixel) → between t tl < between l tl → select l t tl ≡ l
+unfolding select
+select-left l t tl h = rw (to-left l t tl, to-top l t tl, lt-ltb (between t tl) (between l tl) h)
+
+pub select-top : (l t tl : Pixel) → between l tl ≤ between t tl → select l t tl ≡ t
+unfolding select
+select-top l t tl h = rw (to-left l t tl, to-top l t tl, le-ltb (between t tl) (between l tl) h)
+
+-- ---- earlier pixels
+
+-- the row above, by its first index
+pub row-above : (w y : ℕ) → (y ≡ 0 → ⊥) → (y - 1) * w + w ≡ y * w
+row-above w zero n = absurd (n refl)
+row-above w (suc y) n = let e : suc y - 1 ≡ y = omega arith in rw e (sym (suc-mul y w))
+
+module _ (w bits : ℕ) (d : Picture) (pos : 0 < w) where
+  pub predicted-earlier : (f g : Picture) (q : ℕ) → ((p : ℕ) → p < q → f p ≡ g p) → predicted w bits d f (q % w) (q / w) ≡ predicted w bits d g (q % w) (q / w)
+  unfolding predicted
+  predicted-earlier f g q h =
+      let x = q % w in
+      let y = q / w in
+      let e : y * w + x ≡ q = div-add-mod' q w in
+      let l : x < w = mod-lt q pos in
+      if-same (eqb y 0)
+      (λ y0. if-same (eqb x 0) (λ x0. refl) (λ x1. let n = eqb-false x 0 x1 in h (y * w + (x - 1)) (omega arith)))
+      (λ y1.
+      let u = row-above w y (eqb-false y 0 y1) in
+      if-same (eqb x 0) (λ x0. h ((y - 1) * w + x) (omega arith))
+      (λ x1.
+      let n = eqb-false x 0 x1 in
+      cc (
+        h (y * w + (x - 1)) (omega arith),
+        h ((y - 1) * w + x) (omega arith),
+        h ((y - 1) * w + (x - 1)) (omega arith),
+        if-same (eqb (x + 1) w) {x = f (y * w)} {y = f ((y - 1) * w + (x + 1))} {x′ = g (y * w)} {y′ = g ((y - 1) * w + (x + 1))}
+            (λ last. h (y * w) (omega arith)) (λ inner. let m = eqb-false (x + 1) w inner in h ((y - 1) * w + (x + 1)) (omega arith)),
+      )))
+
+  -- rebuilding gives each residual its prediction from the rebuilt picture
+  pub rebuilt-at : (n : ℕ) (g : Picture) (q : ℕ) → q < n
+      → fromResiduals w bits d n g q ≡ each add (g q) (predicted w bits d (fromResiduals w bits d n g) (q % w) (q / w))
+  unfolding gained
+  rebuilt-at n g q l =
+      let e = predicted-earlier (inOrder (gained w bits d) n g) (inOrder (gained w bits d) q g) q (λ p k. inOrder-kept (gained w bits d) g q n p (omega arith) k) in
+      inOrder-at (gained w bits d) g n q l ∙ cc (inOrder-ahead (gained w bits d) g q q (le-refl q), e)
+
+  -- storing undoes rebuilding
+  pub residuals-rebuilt : (n : ℕ) (g : Picture) → ((q : ℕ) → q < n → Bytes (g q)) → (q : ℕ) → q < n → residuals w bits d (fromResiduals w bits d n g) q ≡ g q
+  unfolding residuals
+  residuals-rebuilt n g b q l =
+      let f = fromResiduals w bits d n g in
+      ap (λ (v : Pixel). each sub v (predicted w bits d f (q % w) (q / w))) (rebuilt-at n g q l)
+      ∙ each-sub-add (g q) (predicted w bits d f (q % w) (q / w)) (b q l)
+
+  -- rebuilding undoes storing: below k by induction, at k from the pixels below
+  pub rebuilt-residuals : (n : ℕ) (f : Picture) → ((q : ℕ) → q < n → Bytes (f q)) → (k : ℕ) → k ≤ n → (q : ℕ) → q < k → fromResiduals w bits d k (residuals w bits d f) q ≡ f q
+  unfolding residuals gained inOrder
+  rebuilt-residuals n f b zero kn q l = absurd (not-suc-le-zero l)
+  rebuilt-residuals n f b (suc k) kn q l = go (ℕ-discrete q k) (rebuilt-residuals n f b k (omega arith))
+    where
+      s : Picture
+      s = residuals w bits d f
+
+      u : Picture
+      u = fromResiduals w bits d k s
+
+      go : Dec (q ≡ k) → ((p : ℕ) → p < k → u p ≡ f p) → fromResiduals w bits d (suc k) s q ≡ f q
+      go (no m) ih = paint-other u k (gained w bits d u k) q m ∙ ih q (omega arith)
+      go (yes e) ih =
+          rw e
+          (paint-at u k (gained w bits d u k)
+          ∙ cc (inOrder-ahead (gained w bits d) s k k (le-refl k), predicted-earlier u f k ih)
+          ∙ each-add-sub (f k) (predicted w bits d f (k % w) (k / w)) (b k kn))

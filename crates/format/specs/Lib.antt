@@ -1,0 +1,10 @@
+-- What RFC 9649 and document 01 say of pixels, as definitions that compute. They need no code to be read: `Pixel` is a record of four numbers.
+pub mod Choice
+pub mod Byte
+pub mod Pixel
+pub mod Picture
+pub mod Predictor
+pub mod Color
+pub mod SubtractGreen
+pub mod ColorTable
+pub mod ColorMap

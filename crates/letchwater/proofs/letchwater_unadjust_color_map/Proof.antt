@@ -1,0 +1,20 @@
+-- `letchwater_unadjust_color_map` meets its contract: the code's test is the definition's refusal, which settles both equations.
+use mathlib.Core.Path.{refl, sym, _∙_}
+use borrow.Author.Needs.{needs}
+use Rattle.format.specs.ColorMap.{colorMapAnswer, unadjustColorMap}
+use Rattle.format.proofs.ColorMap.{taken-some}
+use Rattle.letchwater.proofs.letchwater_unadjust_color_map.Statement.{statement}
+use Rattle.letchwater.proofs.letchwater_unadjust_color_map.Tie as tie
+
+pub letchwater-unadjust-color-map-spec : {M : Type 1} → statement M
+unfolding colorMapAnswer unadjustColorMap
+letchwater-unadjust-color-map-spec =
+    tie.close
+    (tie.spec
+    (λ c κs. search needs)
+    (λ c. rw (sym (c .before .refused .ensures) ∙ c .if1 .taken) (refl, refl))
+    (λ c κs. taken-some _ (sym (c .before .before .refused .ensures) ∙ c .before .if1 .left))
+    (λ c. search needs)
+    (λ c.
+    rw (sym (c .before .before .before .before .before .refused .ensures) ∙ c .before .before .before .before .if1 .left)
+    (refl, c .before .before .unadjust-color-map .ensures)))

@@ -1,0 +1,42 @@
+// The calls for the Rust host: numbers and byte slices. Each contract gives the number and every byte of every lent buffer, on every input.
+use color_map::adjust_color_map;
+use color_map::unadjust_color_map;
+ghost use mathlib.Core.Path.{_≡_};
+ghost use Rattle.format.specs.ColorMap.{refused as refusedLength, colorMapAnswer, adjustColorMap, unadjustColorMap};
+
+// Refusal 10: the length of a color map is 0, over 1024 or not a multiple of 4.
+fn refused(length: usize) -> bool
+    ensures { λ r. ⌜ r ≡ refusedLength length ⌝ }
+{
+    if length == 0 {
+        return true;
+    }
+    if 1024 < length {
+        return true;
+    }
+    length % 4 != 0
+}
+
+#[no_mangle]
+pub extern "C" fn letchwater_adjust_color_map(color_map: &mut [u8]) -> u32
+    ensures { λ r. ⌜ r ≡ colorMapAnswer (now («color_map» .entry)) ⌝ }
+    ensures { λ r. ⌜ now («color_map» .exit) ≡ adjustColorMap (now («color_map» .entry)) ⌝ }
+{
+    if refused(color_map.len()) {
+        return 10;
+    }
+    adjust_color_map(color_map);
+    0
+}
+
+#[no_mangle]
+pub extern "C" fn letchwater_unadjust_color_map(color_map: &mut [u8]) -> u32
+    ensures { λ r. ⌜ r ≡ colorMapAnswer (now («color_map» .entry)) ⌝ }
+    ensures { λ r. ⌜ now («color_map» .exit) ≡ unadjustColorMap (now («color_map» .entry)) ⌝ }
+{
+    if refused(color_map.len()) {
+        return 10;
+    }
+    unadjust_color_map(color_map);
+    0
+}

@@ -1,0 +1,13 @@
+use borrow.Author.Needs.{needs}
+use Rattle.pixel.proofs.pixel.subtract_pixels.Statement.{statement}
+use Rattle.pixel.proofs.pixel.subtract_pixels.Tie as tie
+
+pub subtract-pixels-spec : {M : Type 1} → statement M
+subtract-pixels-spec =
+    tie.close
+    (tie.spec
+    (λ c κs. search needs)
+    (λ c κs. search needs)
+    (λ c κs. search needs)
+    (λ c κs. search needs)
+    (λ c. cc))

@@ -1,0 +1,32 @@
+//! Bytes that look random and are the same on every machine.
+
+/// Marsaglia's xorshift on 64 bits.
+pub struct Xorshift(u64);
+
+impl Xorshift {
+    /// A seed of zero would give zeros for ever.
+    pub fn new(seed: u64) -> Self {
+        assert_ne!(seed, 0);
+        Self(seed)
+    }
+
+    pub fn number(&mut self) -> u64 {
+        self.0 ^= self.0 << 13;
+        self.0 ^= self.0 >> 7;
+        self.0 ^= self.0 << 17;
+        self.0
+    }
+
+    /// The high bits, which are the better ones.
+    pub fn byte(&mut self) -> u8 {
+        (self.number() >> 56) as u8
+    }
+
+    pub fn bytes(&mut self, len: usize) -> Vec<u8> {
+        (0..len).map(|_| self.byte()).collect()
+    }
+
+    pub fn choose<T: Copy>(&mut self, from: &[T]) -> T {
+        from[(self.number() >> 32) as usize % from.len()]
+    }
+}

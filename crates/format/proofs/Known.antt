@@ -7,7 +7,7 @@ use lib.ListN.{getD}
 use Rattle.format.specs.declared.Pixel.{Pixel}
 use Rattle.format.specs.Choice.{if_then_else_}
 use Rattle.format.specs.Byte.{delta}
-use Rattle.format.specs.Pixel.{pixel, clear}
+use Rattle.format.specs.Pixel.{pixel, clear, each, each3}
 use Rattle.format.specs.Picture.{Picture, written, inOrder, block, writtenBytes}
 use Rattle.format.specs.Predictor.{predict, select, predicted, gained, fromResiduals}
 use Rattle.format.specs.Color.{inverseColor}
@@ -84,5 +84,5 @@ worked =
     ∷ []
 
 pub known : map (λ (l : Line). l .computed) worked ≡ map (λ (l : Line). l .expected) worked
-unfolding written inOrder gained predicted block predict select delta inverseColor unpacked perPixel lowest adjustColorMap adjusted writtenBytes
+unfolding each each3 written inOrder gained predicted block predict select delta inverseColor unpacked perPixel lowest adjustColorMap adjusted writtenBytes
 known = refl

@@ -17,6 +17,7 @@ pub record Bytes (v : Pixel) : Type 0 where
   pub alpha : v .alpha < 256
 
 pub add-bytes : (u v : Pixel) → Bytes (each add u v)
+unfolding each
 add-bytes u v = record {
   red = add-byte (u .red) (v .red);
   green = add-byte (u .green) (v .green);
@@ -25,6 +26,7 @@ add-bytes u v = record {
 }
 
 pub sub-bytes : (u v : Pixel) → Bytes (each sub u v)
+unfolding each
 sub-bytes u v = record {
   red = sub-byte (u .red) (v .red);
   green = sub-byte (u .green) (v .green);
@@ -33,10 +35,12 @@ sub-bytes u v = record {
 }
 
 pub each-add-sub : (u v : Pixel) → Bytes u → each add (each sub u v) v ≡ u
+unfolding each
 each-add-sub u v h =
     λ k. pixel (add-sub (u .red) (v .red) (h .red) k) (add-sub (u .green) (v .green) (h .green) k) (add-sub (u .blue) (v .blue) (h .blue) k) (add-sub (u .alpha) (v .alpha) (h .alpha) k)
 
 pub each-sub-add : (u v : Pixel) → Bytes u → each sub (each add u v) v ≡ u
+unfolding each
 each-sub-add u v h =
     λ k. pixel (sub-add (u .red) (v .red) (h .red) k) (sub-add (u .green) (v .green) (h .green) k) (sub-add (u .blue) (v .blue) (h .blue) k) (sub-add (u .alpha) (v .alpha) (h .alpha) k)
 

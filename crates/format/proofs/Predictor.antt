@@ -4,22 +4,19 @@ use Prim.Native.Nat.{ℕ, zero, suc, _+_, _-_, _*_, _/_, _%_, _<_, _≤_}
 use native.Mathlib.Nat.{div-add-mod', mod-lt, not-suc-le-zero, suc-mul, le-refl}
 use native.Mathlib.Decide.{ℕ-discrete}
 use native.Mathlib.Omega.{arith}
-use borrow.Author.Tests.{eqb-true, eqb-false, lt-ltb, le-ltb}
-use lib.Dec.{eqb}
+use borrow.Author.Tests.{eqb-false}
+use lib.Dec.{eqb, ltb}
+use Rattle.format.specs.Choice.{if_then_else_}
 use Rattle.format.specs.declared.Pixel.{Pixel}
 use Rattle.format.specs.Byte.{add, sub, distance}
 use Rattle.format.specs.Pixel.{each}
 use Rattle.format.specs.Picture.{Picture, inOrder, paint}
-use Rattle.format.specs.Predictor.{select, distanceTo, predict, predicted, residuals, gained, fromResiduals}
+use Rattle.format.specs.Predictor.{select, distanceTo, between, predict, predicted, residuals, gained, fromResiduals}
 use Rattle.format.proofs.Choice.{if-same}
 use Rattle.format.proofs.Pixels.{Bytes, each-add-sub, each-sub-add}
 use Rattle.format.proofs.Picture.{paint-at, paint-other, inOrder-ahead, inOrder-at, inOrder-kept}
 
 -- ---- select
-
--- the sum over four channels of |u - v|
-abbrev pub between : Pixel → Pixel → ℕ
-between u v = distance (u .red) (v .red) + distance (u .green) (v .green) + distance (u .blue) (v .blue) + distance (u .alpha) (v .alpha)
 
 shift-left : (l t tl : ℕ) → distance (l + t) (tl + l) ≡ distance t tl
 shift-left l t tl = omega arith
@@ -45,13 +42,10 @@ to-top l t tl =
       shift-top (l .alpha) (t .alpha) (tl .alpha),
     )
 
-pub select-left : (l t tl : Pixel) → between t tl < between l tl → select l t tl ≡ l
+-- |p - L| is |T - TL|, and |p - T| is |L - TL|, for p = L + T - TL
+pub select-between : (l t tl : Pixel) → select l t tl ≡ (if ltb (between t tl) (between l tl) then l else t)
 unfolding select
-select-left l t tl h = rw (to-left l t tl, to-top l t tl, lt-ltb (between t tl) (between l tl) h)
-
-pub select-top : (l t tl : Pixel) → between l tl ≤ between t tl → select l t tl ≡ t
-unfolding select
-select-top l t tl h = rw (to-left l t tl, to-top l t tl, le-ltb (between t tl) (between l tl) h)
+select-between l t tl = rw (to-left l t tl, to-top l t tl)
 
 -- ---- earlier pixels
 

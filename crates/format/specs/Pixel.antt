@@ -15,10 +15,10 @@ abbrev pub clear : Pixel
 clear = pixel 0 0 0 0
 
 -- channel by channel
-abbrev pub each : (ℕ → ℕ → ℕ) → Pixel → Pixel → Pixel
+unfoldable pub each : (ℕ → ℕ → ℕ) → Pixel → Pixel → Pixel
 each h u v = pixel (h (u .red) (v .red)) (h (u .green) (v .green)) (h (u .blue) (v .blue)) (h (u .alpha) (v .alpha))
 
-abbrev pub each3 : (ℕ → ℕ → ℕ → ℕ) → Pixel → Pixel → Pixel → Pixel
+unfoldable pub each3 : (ℕ → ℕ → ℕ → ℕ) → Pixel → Pixel → Pixel → Pixel
 each3 h u v t =
     pixel (h (u .red) (v .red) (t .red)) (h (u .green) (v .green) (t .green)) (h (u .blue) (v .blue) (t .blue)) (h (u .alpha) (v .alpha) (t .alpha))
 

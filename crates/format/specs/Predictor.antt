@@ -16,15 +16,18 @@ distanceTo u l t tl =
     + distance (l .blue + t .blue) (tl .blue + u .blue)
     + distance (l .alpha + t .alpha) (tl .alpha + u .alpha)
 
+-- the sum over four channels of |u - v|
+abbrev pub between : Pixel → Pixel → ℕ
+between u v = distance (u .red) (v .red) + distance (u .green) (v .green) + distance (u .blue) (v .blue) + distance (u .alpha) (v .alpha)
+
 -- L where it is nearer to the estimate, else T
 unfoldable pub select : Pixel → Pixel → Pixel → Pixel
 select l t tl = if ltb (distanceTo l l t tl) (distanceTo t l t tl) then l else t
 
--- what a mode predicts from L, T, TR and TL. The list is the table of modes 0 to 13; modes 14 to 255 predict zero
-unfoldable pub predict : ℕ → Pixel → Pixel → Pixel → Pixel → Pixel
-predict mode l t tr tl =
-    getD
-    (black
+-- what modes 0 to 13 predict from L, T, TR and TL
+abbrev pub predictions : Pixel → Pixel → Pixel → Pixel → List Pixel
+predictions l t tr tl =
+    black
     ∷ l
     ∷ t
     ∷ tr
@@ -38,8 +41,11 @@ predict mode l t tr tl =
     ∷ select l t tl
     ∷ each3 clampFull l t tl
     ∷ each3 clampHalf l t tl
-    ∷ [])
-    mode clear
+    ∷ []
+
+-- modes 14 to 255 predict zero
+unfoldable pub predict : ℕ → Pixel → Pixel → Pixel → Pixel → Pixel
+predict mode l t tr tl = getD (predictions l t tr tl) mode clear
 
 -- the neighbours of column x of row y in a picture of w columns
 module _ (w : ℕ) (f : Picture) (x y : ℕ) where

@@ -8,7 +8,7 @@ use native.Mathlib.Decide.{ℕ-discrete}
 use native.Mathlib.Omega.{arith}
 use borrow.Author.Tests.{eq-eqb, ne-eqb}
 use lib.ListN.{length, getD, set, length-set}
-use lib.Seq.{getD-set-other, getD-set-same, set-comm}
+use lib.Seq.{getD-set-other, getD-set-same, set-comm, set-getD}
 use Rattle.format.specs.declared.Pixel.{Pixel}
 use Rattle.format.specs.Pixel.{pixel}
 use Rattle.format.specs.Picture.{byteAt, pixels, paint, inOrder}
@@ -126,6 +126,16 @@ put-comm-pixel xs i j u v n =
         → set (putPixel (three xs j v) i u) (4 * j + 3) (v .alpha) ≡ putPixel (set (three xs j v) (4 * j + 3) (v .alpha)) i u
         → putPixel ys j v ≡ putPixel (putPixel xs j v) i u
     four ys s0 s1 s2 s3 = unfold putPixel in cc
+
+-- a pixel put where it stands
+pub put-same : (xs : List ℕ) (i : ℕ) → putPixel xs i (pixels xs i) ≡ xs
+unfolding putPixel pixels
+put-same xs i =
+    let r = set-getD xs (4 * i) 0 in
+    let g = set-getD xs (4 * i + 1) 0 in
+    let b = set-getD xs (4 * i + 2) 0 in
+    let a = set-getD xs (4 * i + 3) 0 in
+    rw (r, g, b, a)
 
 pub pixel-lawful : Lawful pixelCells
 pixel-lawful = record { length-put = length-putPixel; get-other = λ xs i j v n. pixel-other xs i v j n; get-same = λ xs i v h. pixel-same xs i v h; put-comm = put-comm-pixel }

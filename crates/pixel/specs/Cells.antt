@@ -29,3 +29,7 @@ Rule P = (ℕ → P) → ℕ → P
 unfoldable pub run : {P : Type 0} → Cells P → Rule P → ℕ → ℕ → List ℕ → List ℕ
 run c h a zero xs = xs
 run c h a (suc n) xs = c .put (run c h a n xs) (a + n) (h (c .get (run c h a n xs)) (a + n))
+
+-- the rule that gives each cell by its index alone
+unfoldable pub given : {P : Type 0} → (ℕ → P) → Rule P
+given f p i = f i

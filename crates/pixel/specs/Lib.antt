@@ -1,2 +1,4 @@
--- What the contracts of code cite beside the definitions of `format`: cells of a buffer replaced in order.
+-- What the contracts of code cite beside the definitions of `format`: cells of a buffer replaced in order, and sizes that fit.
 pub mod Cells
+pub mod Sizes
+pub mod Word

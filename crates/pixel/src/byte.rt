@@ -1,6 +1,6 @@
-// Arithmetic on single bytes. Clamping is by maxima and minima of unsigned numbers, which compile to no branch.
+// Arithmetic on single bytes. Clamping is by saturating sums and differences of bytes, which compile to one instruction each and to no branch.
 ghost use mathlib.Core.Path.{_≡_};
-ghost use Prim.Native.Nat.{_+_, _-_, _/_, _<_, min};
+ghost use Prim.Native.Nat.{_+_, _-_, _<_, _≤_, min};
 ghost use Rattle.format.specs.Byte.{add, sub, avg, distance as distanceOf, clampFull, clampHalf};
 
 fn wide(x: u8) -> u16
@@ -15,35 +15,59 @@ pub fn average2(a: u8, b: u8) -> u8
     ((wide(a) + wide(b)) / 2) as u8
 }
 
+// The average of two averages, each rounded down.
+pub fn average4(a: u8, b: u8, c: u8, d: u8) -> u8
+    ensures { λ r. ⌜ r ≡ avg (avg a b) (avg c d) ⌝ }
+{
+    average2(average2(a, b), average2(c, d))
+}
+
 // a - b, or 0 where that is less than 0.
-fn above_0(a: u16, b: u16) -> u16
+fn less(a: u8, b: u8) -> u8
     ensures { λ r. ⌜ r ≡ a - b ⌝ }
 {
     if a < b { 0 } else { a - b }
 }
 
-fn at_most_255(x: u16) -> u8
-    ensures { λ r. ⌜ r ≡ min 255 x ⌝ }
+// a + b, or 255 where that is more.
+fn more(a: u8, b: u8) -> u8
+    ensures { λ r. ⌜ r ≡ min 255 (a + b) ⌝ }
 {
-    if x < 256 { x as u8 } else { 255 }
+    if a <= 255 - b { a + b } else { 255 }
 }
 
+// One of `up` and `down` is 0.
 pub fn clamp_add_subtract_full(l: u8, t: u8, tl: u8) -> u8
     ensures { λ r. ⌜ r ≡ clampFull l t tl ⌝ }
 {
-    at_most_255(above_0(wide(l) + wide(t), wide(tl)))
+    let up = less(t, tl);
+    let down = less(tl, t);
+    less(more(l, up), down)
 }
 
 pub fn clamp_add_subtract_half(l: u8, t: u8, tl: u8) -> u8
     ensures { λ r. ⌜ r ≡ clampHalf l t tl ⌝ }
 {
-    let m = wide(average2(l, t));
-    let c = wide(tl);
-    at_most_255(above_0(m + above_0(m, c) / 2, above_0(c, m) / 2))
+    let m = average2(l, t);
+    let up = less(m, tl) / 2;
+    let down = less(tl, m) / 2;
+    less(more(m, up), down)
 }
 
-pub fn distance(a: u8, b: u8) -> u16
+fn greater(a: u8, b: u8) -> u8
+    ensures { λ r. ⌜ (a ≤ r) × (b ≤ r) × (r ≡ b + (a - b)) ⌝ }
+{
+    if a < b { b } else { a }
+}
+
+fn lesser(a: u8, b: u8) -> u8
+    ensures { λ r. ⌜ (r ≤ a) × (r ≤ b) × (r ≡ min a b) ⌝ }
+{
+    if a < b { a } else { b }
+}
+
+pub fn distance(a: u8, b: u8) -> u32
     ensures { λ r. ⌜ (r ≡ distanceOf a b) × (r < 256) ⌝ }
 {
-    above_0(wide(a), wide(b)) + above_0(wide(b), wide(a))
+    (greater(a, b) - lesser(a, b)) as u32
 }

@@ -1,3 +1,5 @@
-// Byte arithmetic, and pixels by value: read from a buffer, written to it, predicted from their neighbours.
+// Byte arithmetic; pixels by value, read from a buffer and written to it; the blocks that share a data pixel.
+pub mod block;
 pub mod byte;
 pub mod pixel;
+pub mod word;

@@ -1,8 +1,11 @@
+-- `average_pixels` meets its contract, channel by channel.
+use Rattle.format.specs.Pixel.{each}
 use borrow.Author.Needs.{needs}
 use Rattle.pixel.proofs.pixel.average_pixels.Statement.{statement}
 use Rattle.pixel.proofs.pixel.average_pixels.Tie as tie
 
 pub average-pixels-spec : {M : Type 1} → statement M
+unfolding each
 average-pixels-spec =
     tie.close
     (tie.spec

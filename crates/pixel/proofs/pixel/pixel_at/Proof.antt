@@ -1,3 +1,4 @@
+-- `pixel_at` meets its contract: its four reads are the definition's.
 use mathlib.Core.Path.{refl}
 use Rattle.format.specs.Picture.{pixels}
 use borrow.Author.Needs.{needs}

@@ -1,3 +1,4 @@
+-- `put_pixel` meets its contract: its four stores are the definition's.
 use mathlib.Core.Path.{refl}
 use native.Mathlib.Omega.{arith}
 use lib.ListN.{length-set}

@@ -1,8 +1,8 @@
--- `pixel::select` meets its contract: |p - L| is |T - TL|, and |p - T| is |L - TL|.
-use mathlib.Core.Path.{sym}
-use native.Mathlib.Omega.{arith}
+-- `select` meets its contract: the test is the definition's, with what both sides share taken off.
+use mathlib.Core.Path.{sym, _∙_}
 use borrow.Author.Needs.{needs}
-use Rattle.format.proofs.Predictor.{select-left, select-top}
+use borrow.Author.Tests.{lt-ltb, le-ltb}
+use Rattle.format.proofs.Predictor.{select-between}
 use Rattle.pixel.proofs.pixel.select.Statement.{statement}
 use Rattle.pixel.proofs.pixel.select.Tie as tie
 
@@ -12,5 +12,7 @@ select-spec =
     (tie.spec
     (λ c κs. search needs)
     (λ c κs. search needs)
-    (λ c. sym (select-left _ _ _ (omega arith)))
-    (λ c. sym (select-top _ _ _ (omega arith))))
+    (λ c.
+    rw (select-between, ← c .before .before .pixel-distance .ensures, ← c .before .pixel-distance2 .ensures, lt-ltb _ _ (c .if1 .taken)))
+    (λ c.
+    rw (select-between, ← c .before .before .pixel-distance .ensures, ← c .before .pixel-distance2 .ensures, le-ltb _ _ (c .if1 .left))))

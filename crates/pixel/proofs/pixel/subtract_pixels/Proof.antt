@@ -1,8 +1,11 @@
+-- `subtract_pixels` meets its contract, channel by channel.
+use Rattle.format.specs.Pixel.{each}
 use borrow.Author.Needs.{needs}
 use Rattle.pixel.proofs.pixel.subtract_pixels.Statement.{statement}
 use Rattle.pixel.proofs.pixel.subtract_pixels.Tie as tie
 
 pub subtract-pixels-spec : {M : Type 1} → statement M
+unfolding each
 subtract-pixels-spec =
     tie.close
     (tie.spec

@@ -1,0 +1,3 @@
+mod Delta
+mod Pointwise
+mod Blocks

@@ -1,0 +1,18 @@
+-- `reduce_pixel` meets its contract: red and blue lose green.
+use native.Mathlib.Omega.{arith}
+use borrow.Author.Needs.{needs}
+use Rattle.color.proofs.Delta.{wrapped}
+use Rattle.color.proofs.subtract_green.reduce_pixel.Statement.{statement}
+use Rattle.color.proofs.subtract_green.reduce_pixel.Tie as tie
+
+pub reduce-pixel-spec : {M : Type 1} → statement M
+reduce-pixel-spec =
+    tie.close
+    (tie.spec
+    (λ c κs. search needs)
+    (λ c κs. search needs)
+    (λ c.
+    rw (
+      wrapped _ _ _ (c .wrapping-sub-u82 .ensures) (omega arith) (omega arith),
+      wrapped _ _ _ (c .before .wrapping-sub-u8 .ensures) (omega arith) (omega arith),
+    )))

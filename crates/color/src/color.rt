@@ -1,0 +1,201 @@
+// The color transform. Signed bytes are taken modulo 2^13 instead, since a loop over unsigned numbers is vectorized.
+use format::Pixel;
+use pixel::block::block_end;
+use pixel::block::subsample_size;
+use pixel::pixel::pixel_at;
+use pixel::word::read_pixel;
+use pixel::word::wide;
+use pixel::word::write_pixel;
+use std::num::wrapping_add_u8;
+use std::num::wrapping_sub_u8;
+ghost use mathlib.Core.Path.{_≡_};
+ghost use Prim.Native.Nat.{_-_, _*_, _<_, _≤_};
+ghost use lib.ListN.{length};
+ghost use Rattle.format.specs.Picture.{pixels, written};
+ghost use Rattle.format.specs.Color.{inverseColor, transformColor, colorRebuilt, colorStored};
+ghost use Rattle.pixel.specs.Cells.{pixelCells, run};
+ghost use Rattle.pixel.specs.Sizes.{Sized, Holds, Blocked, BlockedRow};
+ghost use Rattle.color.specs.Factor.{Factor, DeltaBy, PixelBy};
+ghost use Rattle.color.specs.Row.{inPlace, outOf, pointwise, everywhere, inRow, inPicture};
+
+// The signed byte t modulo 2^13.
+fn factor(t: u8) -> u32
+    ensures { λ r. ⌜ Factor t r ⌝ }
+{
+    wide(t % 128) + wide(t / 128) * 8064
+}
+
+// With u - 128 for the signed byte c, the product is m * u - 128 * m. 2^20 keeps it from falling below 0 and is lost modulo 256, as 2^13 / 32 is 256.
+fn color_transform_delta(m: u32, c: u8) -> u8
+    requires { ⌜ m < 8192 ⌝ }
+    ensures { λ r. ⌜ DeltaBy m c r ⌝ }
+{
+    let u = (wide(c) + 128) % 256;
+    ((m * u + (1048576 - 128 * m)) / 32 % 256) as u8
+}
+
+// The factors are those of the block's data pixel.
+fn rebuild_pixel(v: Pixel, green_to_red: u32, green_to_blue: u32, red_to_blue: u32) -> Pixel
+    requires { ⌜ («green_to_red» < 8192) × («green_to_blue» < 8192) × («red_to_blue» < 8192) ⌝ }
+    ensures { λ r. ⌜ PixelBy inverseColor «green_to_red» «green_to_blue» «red_to_blue» v r ⌝ }
+{
+    let red = wrapping_add_u8(v.red, color_transform_delta(green_to_red, v.green));
+    let blue = wrapping_add_u8(v.blue, color_transform_delta(green_to_blue, v.green));
+    Pixel {
+        red,
+        green: v.green,
+        blue: wrapping_add_u8(blue, color_transform_delta(red_to_blue, red)),
+        alpha: v.alpha,
+    }
+}
+
+fn reduce_pixel(v: Pixel, green_to_red: u32, green_to_blue: u32, red_to_blue: u32) -> Pixel
+    requires { ⌜ («green_to_red» < 8192) × («green_to_blue» < 8192) × («red_to_blue» < 8192) ⌝ }
+    ensures { λ r. ⌜ PixelBy transformColor «green_to_red» «green_to_blue» «red_to_blue» v r ⌝ }
+{
+    let red = wrapping_sub_u8(v.red, color_transform_delta(green_to_red, v.green));
+    let blue = wrapping_sub_u8(v.blue, color_transform_delta(green_to_blue, v.green));
+    Pixel {
+        red,
+        green: v.green,
+        blue: wrapping_sub_u8(blue, color_transform_delta(red_to_blue, v.red)),
+        alpha: v.alpha,
+    }
+}
+
+// Columns of one block, whose data pixel is e.
+fn rebuild_segment(row: &mut [u8], from: usize, to: usize, e: Pixel)
+    requires { ⌜ (from ≤ to) × (4 * to ≤ length (now row)) ⌝ }
+    ensures { λ _. ⌜ now (row .exit) ≡ run pixelCells (pointwise (everywhere (inverseColor e)) inPlace) from (to - from) (now (row .entry)) ⌝ }
+{
+    let green_to_red = factor(e.blue);
+    let green_to_blue = factor(e.green);
+    let red_to_blue = factor(e.red);
+    let mut i = from;
+    while i < to {
+        let v = rebuild_pixel(read_pixel(row, i), green_to_red, green_to_blue, red_to_blue);
+        write_pixel(row, i, v);
+        i += 1;
+    }
+}
+
+fn store_segment(row: &[u8], out: &mut [u8], from: usize, to: usize, e: Pixel)
+    requires { ⌜ (from ≤ to) × (4 * to ≤ length (now row)) × (4 * to ≤ length (now out)) ⌝ }
+    ensures { λ _. ⌜ now (out .exit) ≡ run pixelCells (pointwise (everywhere (transformColor e)) (outOf (pixels (now (row .entry))))) from (to - from) (now (out .entry)) ⌝ }
+{
+    let green_to_red = factor(e.blue);
+    let green_to_blue = factor(e.green);
+    let red_to_blue = factor(e.red);
+    let mut i = from;
+    while i < to {
+        let v = reduce_pixel(read_pixel(row, i), green_to_red, green_to_blue, red_to_blue);
+        write_pixel(out, i, v);
+        i += 1;
+    }
+}
+
+// A row, with the data of its row of blocks.
+pub fn rebuild_row(row: &mut [u8], width: usize, bits: u32, blocks: &[u8])
+    requires { ⌜ BlockedRow width bits (now blocks) ⌝ }
+    requires { ⌜ 4 * width ≤ length (now row) ⌝ }
+    ensures { λ _. ⌜ now (row .exit) ≡ run pixelCells (pointwise (inRow inverseColor bits (pixels (now (blocks .entry)))) inPlace) 0 width (now (row .entry)) ⌝ }
+{
+    let mut x = 0;
+    while x < width {
+        let end = block_end(x, bits, width);
+        rebuild_segment(row, x, end, pixel_at(blocks, x >> bits));
+        x = end;
+    }
+}
+
+pub fn store_row(row: &[u8], out: &mut [u8], width: usize, bits: u32, blocks: &[u8])
+    requires { ⌜ BlockedRow width bits (now blocks) ⌝ }
+    requires { ⌜ (4 * width ≤ length (now row)) × (4 * width ≤ length (now out)) ⌝ }
+    ensures { λ _. ⌜ now (out .exit) ≡ run pixelCells (pointwise (inRow transformColor bits (pixels (now (blocks .entry)))) (outOf (pixels (now (row .entry))))) 0 width (now (out .entry)) ⌝ }
+{
+    let mut x = 0;
+    while x < width {
+        let end = block_end(x, bits, width);
+        store_segment(row, out, x, end, pixel_at(blocks, x >> bits));
+        x = end;
+    }
+}
+
+// Row y of the picture.
+pub fn rebuild_row_at(
+    image: &mut [u8],
+    width: usize,
+    height: usize,
+    bits: u32,
+    blocks: &[u8],
+    y: usize,
+)
+    requires { ⌜ Sized width height × Blocked width height bits (now blocks) × (y < height) ⌝ }
+    requires { ⌜ Holds width height (now image) ⌝ }
+    ensures { λ _. ⌜ now (image .exit) ≡ run pixelCells (pointwise (inPicture inverseColor width bits (pixels (now (blocks .entry)))) inPlace) (y * width) width (now (image .entry)) ⌝ }
+{
+    let a = 4 * (y * width);
+    let b = a + 4 * width;
+    let across = subsample_size(width, bits);
+    let c = 4 * ((y >> bits) * across);
+    let d = c + 4 * across;
+    rebuild_row(&mut image[a..b], width, bits, &blocks[c..d]);
+}
+
+pub fn store_row_at(
+    picture: &[u8],
+    strip: &mut [u8],
+    width: usize,
+    height: usize,
+    bits: u32,
+    blocks: &[u8],
+    y: usize,
+)
+    requires { ⌜ Sized width height × Blocked width height bits (now blocks) × (y < height) ⌝ }
+    requires { ⌜ Holds width height (now picture) × Holds width height (now strip) ⌝ }
+    ensures { λ _. ⌜ now (strip .exit) ≡ run pixelCells (pointwise (inPicture transformColor width bits (pixels (now (blocks .entry)))) (outOf (pixels (now (picture .entry))))) (y * width) width (now (strip .entry)) ⌝ }
+{
+    let a = 4 * (y * width);
+    let b = a + 4 * width;
+    let across = subsample_size(width, bits);
+    let c = 4 * ((y >> bits) * across);
+    let d = c + 4 * across;
+    store_row(&picture[a..b], &mut strip[a..b], width, bits, &blocks[c..d]);
+}
+
+pub fn apply_color_transform(
+    image: &mut [u8],
+    width: usize,
+    height: usize,
+    bits: u32,
+    blocks: &[u8],
+)
+    requires { ⌜ Sized width height × Blocked width height bits (now blocks) ⌝ }
+    requires { ⌜ Holds width height (now image) ⌝ }
+    ensures { λ _. ⌜ now (image .exit) ≡ written (height * width) (colorRebuilt width bits (pixels (now (blocks .entry))) (pixels (now (image .entry)))) (now (image .entry)) ⌝ }
+{
+    let mut y = 0;
+    while y < height {
+        rebuild_row_at(image, width, height, bits, blocks, y);
+        y += 1;
+    }
+}
+
+pub fn store_color_transform(
+    picture: &[u8],
+    strip: &mut [u8],
+    width: usize,
+    height: usize,
+    bits: u32,
+    blocks: &[u8],
+)
+    requires { ⌜ Sized width height × Blocked width height bits (now blocks) ⌝ }
+    requires { ⌜ Holds width height (now picture) × Holds width height (now strip) ⌝ }
+    ensures { λ _. ⌜ now (strip .exit) ≡ written (height * width) (colorStored width bits (pixels (now (blocks .entry))) (pixels (now (picture .entry)))) (now (strip .entry)) ⌝ }
+{
+    let mut y = 0;
+    while y < height {
+        store_row_at(picture, strip, width, height, bits, blocks, y);
+        y += 1;
+    }
+}

@@ -1,0 +1,23 @@
+-- `gain_13` meets its contract: its prediction is line 13 of the table of modes.
+use Rattle.format.specs.Predictor.{predict}
+use borrow.Author.Needs.{needs}
+use Rattle.predictor.proofs.segment.gain_13.Statement.{statement}
+use Rattle.predictor.proofs.segment.gain_13.Tie as tie
+
+returns : tie.Need-returns
+unfolding predict
+returns c = cc
+
+pub gain-13-spec : {M : Type 1} → statement M
+gain-13-spec =
+    tie.close
+    (tie.spec
+    (λ c. search needs)
+    (λ c κs. search needs)
+    (λ c. search needs)
+    (λ c. search needs)
+    (λ c κs. search needs)
+    (λ c κs. search needs)
+    (λ c κs. search needs)
+    (λ c κs. search needs)
+    returns)

@@ -1,0 +1,19 @@
+-- `store_row_at` meets its contract: row 0 by its own rule, the others by theirs.
+use native.Mathlib.Omega.{arith}
+use borrow.Author.Needs.{needs}
+use Rattle.predictor.proofs.Rows.{row-there, row-zero}
+use Rattle.predictor.proofs.store.store_row_at.Statement.{statement}
+use Rattle.predictor.proofs.store.store_row_at.Tie as tie
+
+pub store-row-at-spec : {M : Type 1} → statement M
+store-row-at-spec =
+    tie.close
+    (tie.spec
+    (λ c κs. let s = c .before .before .before .before .before in omega (arith, row-there (s .args .width) _ _ (s .pre .1 .1 .1)))
+    (λ c κs. search needs)
+    (λ c. search needs)
+    (λ c.
+    let z = row-zero (c .before .before .before .before .before .before .before .before .args .width) in
+    rw (c .before .before .before .before .if1 .taken, z .1, z .0) (c .before .before .store-first-row .ensures))
+    (λ c. search needs)
+    (λ c. search needs))

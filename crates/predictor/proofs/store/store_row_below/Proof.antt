@@ -1,0 +1,67 @@
+-- `store_row_below` meets its contract: the part of the picture holds rows y - 1 and y, and the residuals put into the strip's part are those of row y.
+use mathlib.Core.Path.{_≡_}
+use Prim.Native.Nat.{_+_, _-_, _*_, _/_, _^_, _≤_}
+use native.Mathlib.Omega.{arith}
+use borrow.Author.Needs.{needs}
+use lib.ListN.{length}
+use Rattle.predictor.proofs.Rows.{row-there, pair-there, data-there}
+use Rattle.predictor.proofs.StoredRows.{stored-back}
+use Rattle.predictor.proofs.store.store_row_below.Statement.{statement}
+use Rattle.predictor.proofs.store.store_row_below.Tie as tie
+
+pair : (s : tie.Start) → (s .args .y - 1) * s .args .width + 2 * s .args .width ≤ s .args .height * s .args .width
+pair s = pair-there _ _ _ (s .pre .1 .1 .1 .0) (s .pre .1 .1 .1 .1)
+
+blocks : (c : tie.After-subsample-size)
+    → 4 * (c .before .before .before .before .args .y / 2 ^ c .before .before .before .before .args .bits * c .subsample-size .result) + 4 * c .subsample-size .result
+    ≤ length (c .before .before .before .before .args .blocks .now)
+blocks c =
+    let p = c .before .before .before .before .pre in
+    data-there _ _ _ _ _ (p .1 .1 .0) (p .1 .1 .1 .1) _ (c .subsample-size .ensures)
+
+row : (s : tie.Start) → s .args .y * s .args .width + s .args .width ≤ s .args .height * s .args .width
+row s = row-there _ _ _ (s .pre .1 .1 .1 .1)
+
+pub store-row-below-spec : {M : Type 1} → statement M
+store-row-below-spec =
+    tie.close
+    (tie.spec
+    (λ c κs. search needs)
+    (λ c. search needs)
+    (λ c. omega (arith, pair (c .before .before .before .before)))
+    (λ c. omega (arith, pair (c .before .before .before .before)))
+    (λ c. search needs)
+    (λ c. omega (arith, pair (c .before .before .before .before)))
+    (λ c. omega (arith, row (c .before .before .before .before)))
+    (λ c. omega (arith, row (c .before .before .before .before)))
+    (λ c. search needs)
+    (λ c. omega (arith, row (c .before .before .before .before)))
+    (λ c. search needs)
+    (λ c. omega (arith, blocks c))
+    (λ c. omega (arith, blocks c))
+    (λ c. omega (arith, blocks c))
+    (λ c. omega (arith, blocks c))
+    (λ c. search needs)
+    (λ c. search needs)
+    (λ c. omega (arith, pair (c .before .before .before .before)))
+    (λ c. search needs)
+    (λ c. search needs)
+    (λ c. omega (arith, row (c .before .before .before .before .before)))
+    (λ c. search needs)
+    (λ c. search needs)
+    (λ c. omega (arith, blocks (c .before .before)))
+    (λ c κs. search needs)
+    (λ c. search needs)
+    (λ c.
+    let d = c .before .before .before .before .before .before in
+    let s = d .before .before .before .before in
+    let p = s .pre in
+    let a = 4 * ((s .args .y - 1) * s .args .width) in
+    let j : a + 8 * s .args .width - a ≡ 8 * s .args .width = omega arith in
+    let t = 4 * (s .args .y * s .args .width) in
+    let k : t + 4 * s .args .width - t ≡ 4 * s .args .width = omega arith in
+    let bx = d .subsample-size .result in
+    let f = 4 * (s .args .y / 2 ^ s .args .bits * bx) in
+    let m : f + 4 * bx - f ≡ 4 * bx = omega arith in
+    rw (c .before .before .store-row .ensures)
+    (stored-back _ _ _ _ _ (s .args .picture .now) (s .args .strip .now) (p .1 .0 .0) (p .1 .0 .1) (p .1 .1 .0) (p .1 .1 .1 .0) (p .1 .1 .1 .1) _ _ _ _ (d .subsample-size .ensures) j k m)))

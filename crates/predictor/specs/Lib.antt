@@ -1,0 +1,3 @@
+-- What the contracts of `predictor` cite beside the definitions of `format`.
+pub mod Row
+pub mod Bytewise

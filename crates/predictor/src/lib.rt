@@ -1,0 +1,7 @@
+// The predictor transform: a row at a time, and whole pictures.
+pub mod rebuild;
+mod residual;
+mod row;
+mod segment;
+mod select;
+pub mod store;

@@ -8,4 +8,5 @@ pub mod Color
 pub mod SubtractGreen
 pub mod ColorTable
 pub mod ColorMap
+pub mod RoundTrips
 pub mod Known

@@ -1,4 +1,4 @@
--- The color transform (RFC 9649, section 4.2; document 01, module 3).
+-- The color transform (RFC 9649, "Color Transform"; document 01, module 3).
 use Prim.Native.Nat.{ℕ, _/_, _%_}
 use Rattle.format.specs.declared.Pixel.{Pixel}
 use Rattle.format.specs.Byte.{add, sub, delta}

@@ -1,4 +1,4 @@
--- The predictor transform (RFC 9649, section 4.1; document 01, module 2).
+-- The predictor transform (RFC 9649, "Predictor Transform"; document 01, module 2).
 use mathlib.Core.List.{List, [], _∷_}
 use Prim.Native.Nat.{ℕ, _+_, _-_, _*_, _/_, _%_}
 use lib.Dec.{eqb, ltb}

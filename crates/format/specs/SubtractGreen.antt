@@ -1,4 +1,4 @@
--- The subtract green transform (RFC 9649, section 4.3; document 01, module 3).
+-- The subtract green transform (RFC 9649, "Subtract Green Transform"; document 01, module 3).
 use Rattle.format.specs.declared.Pixel.{Pixel}
 use Rattle.format.specs.Byte.{add, sub}
 use Rattle.format.specs.Pixel.{pixel}

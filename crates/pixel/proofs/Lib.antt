@@ -2,3 +2,5 @@ pub mod Cells
 pub mod Front
 pub mod Part
 pub mod Channels
+pub mod Blocks
+pub mod Given

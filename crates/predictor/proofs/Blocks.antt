@@ -2,33 +2,20 @@
 use mathlib.Core.List.{List}
 use mathlib.Core.Path.{_≡_, refl, sym, ap, _∙_}
 use Prim.Native.Nat.{ℕ, zero, suc, _+_, _-_, _*_, _/_, _^_, _≤_, _<_}
-use native.Mathlib.Nat.{div-mul-le-self, div-eq-of-lt-le, add-mul, one-mul, add-zero}
+use native.Mathlib.Nat.{add-zero}
 use native.Mathlib.Omega.{arith}
 use borrow.Author.Tests.{eq-eqb, ne-eqb}
-use lib.Pow.{pow-pos}
 use lib.ListN.{length}
 use Rattle.format.specs.declared.Pixel.{Pixel}
 use Rattle.format.specs.Byte.{add, sub}
 use Rattle.format.specs.Pixel.{each}
-use Rattle.format.specs.Picture.{Picture, pixels, ceiling}
-use Rattle.format.proofs.ColorTable.{column-packed}
+use Rattle.format.specs.Picture.{Picture, pixels}
 use Rattle.pixel.specs.Cells.{pixelCells, putPixel, Rule, run, given}
-use Rattle.pixel.specs.Sizes.{BlockedRow, BlockEnd}
+use Rattle.pixel.specs.Sizes.{BlockEnd}
+use Rattle.pixel.proofs.Blocks.{same-block}
+use Rattle.pixel.proofs.Given.{given-same}
 use Rattle.pixel.proofs.Cells.{pixel-lawful, run-same}
 use Rattle.predictor.specs.Row.{around, gains, residual, rowPredicted}
-
--- a column has its block
-pub block-there : (w bits x : ℕ) → x < w → x / 2 ^ bits < ceiling w (2 ^ bits)
-block-there w bits x l = column-packed w (2 ^ bits) x (pow-pos bits) l
-
--- a column of the block that x is in
-same-block : (s x col : ℕ) → x ≤ col → col < x / s * s + s → col / s ≡ x / s
-same-block s x col l u = div-eq-of-lt-le s (omega (arith, div-mul-le-self x s)) (rw (add-mul, one-mul) (omega arith))
-
--- pixels given by their index
-pub run-given : (f g : ℕ → Pixel) (a : ℕ) (xs : List ℕ) (n : ℕ) → ((i : ℕ) → a ≤ i → i < a + n → f i ≡ g i) → run pixelCells (given f) a n xs ≡ run pixelCells (given g) a n xs
-unfolding given
-run-given f g a xs n e = run-same pixelCells pixel-lawful (given f) (given g) a xs n (λ i l u ys x y. e i l u)
 
 module _ (w bits : ℕ) (d : Picture) where
   -- column 0
@@ -68,7 +55,7 @@ module _ (w bits : ℕ) (d : Picture) where
       → ys ≡ run pixelCells (given (residual (rowPredicted w bits d) w r)) x (e - x) xs
   given-block x e m r xs ys q f b h =
       q
-      ∙ run-given (residual (around m w) w r) (residual (rowPredicted w bits d) w r) x xs (e - x)
+      ∙ given-same (residual (around m w) w r) (residual (rowPredicted w bits d) w r) x xs (e - x)
       (λ i l u. ap (each sub (r (w + i))) (rw f (sym (row-block r x e (w + i) b h (omega arith) (omega (arith, b .after))))))
 
   pub given-first : (r : Picture) (xs ys : List ℕ) (v : Pixel) → ys ≡ putPixel xs 0 v → v ≡ each sub (r w) (r 0)

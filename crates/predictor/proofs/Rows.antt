@@ -18,23 +18,12 @@ use Rattle.format.specs.Predictor.{gained, predict, predicted, mode, left, top,
 use Rattle.format.proofs.Predictor.{row-above}
 use Rattle.pixel.specs.Cells.{pixelCells, Rule, run}
 use Rattle.pixel.specs.Sizes.{Blocked, Holds}
+use Rattle.pixel.proofs.Blocks.{row-there, block-there, data-there}
 use Rattle.pixel.proofs.Cells.{pixel-lawful, run-same, run-next}
 use Rattle.pixel.proofs.Front.{pixels-run}
 use Rattle.pixel.proofs.Part.{back, part-run, pixel-part}
 use Rattle.predictor.specs.Row.{around, gains, rowPredicted}
-use Rattle.predictor.proofs.Blocks.{block-there, row-first}
-
--- ---- sizes
-
-module _ (w h y : ℕ) (below : y < h) where
-  pub row-there : y * w + w ≤ h * w
-  row-there = rw (add-mul, one-mul) at (mul-le-mul-right {m = y + 1} {n = h} w (omega arith))
-
-  -- the row of blocks that holds row y
-  pub blocks-there : (bits : ℕ) → y / 2 ^ bits * ceiling w (2 ^ bits) + ceiling w (2 ^ bits) ≤ ceiling h (2 ^ bits) * ceiling w (2 ^ bits)
-  blocks-there bits =
-      let q = block-there h bits y below in
-      rw (add-mul, one-mul) at (mul-le-mul-right {m = y / 2 ^ bits + 1} {n = ceiling h (2 ^ bits)} (ceiling w (2 ^ bits)) (omega arith))
+use Rattle.predictor.proofs.Blocks.{row-first}
 
 -- ---- row 0
 
@@ -116,9 +105,6 @@ module _ (w bits y : ℕ) (D d : Picture) (off : 1 ≤ y) (blocks : (j : ℕ) �
 -- rows y - 1 and y
 pub pair-there : (w h y : ℕ) → 1 ≤ y → y < h → (y - 1) * w + 2 * w ≤ h * w
 pair-there w h y off below = omega (arith, row-there w h y below, row-above w y (λ z. omega arith))
-
-pub data-there : (w h bits y : ℕ) (bs : List ℕ) → Blocked w h bits bs → y < h → (bx : ℕ) → bx ≡ ceiling w (2 ^ bits) → 4 * (y / 2 ^ bits * bx) + 4 * bx ≤ length bs
-data-there w h bits y bs blocked below bx e = rw e (omega (arith, blocks-there w h y below bits, blocked .there))
 
 module _ (w h bits y : ℕ) (bs xs : List ℕ) (room : Holds w h xs) (blocked : Blocked w h bits bs) (off : 1 ≤ y) (below : y < h) where
   -- the data pixels of the row's blocks, in their part

@@ -8,17 +8,17 @@ use lib.ListN.{length, take, drop}
 use Rattle.format.specs.declared.Pixel.{Pixel}
 use Rattle.format.specs.Byte.{sub}
 use Rattle.format.specs.Pixel.{each, black}
-use Rattle.format.specs.Picture.{Picture, pixels, ceiling, written, inOrder}
+use Rattle.format.specs.Picture.{Picture, pixels, ceiling, written}
 use Rattle.format.specs.Predictor.{predict, predicted, residuals}
 use Rattle.format.proofs.Predictor.{row-above}
-use Rattle.format.proofs.Picture.{inOrder-at, written-same}
 use Rattle.pixel.specs.Cells.{pixelCells, putPixel, run, given}
 use Rattle.pixel.specs.Sizes.{Blocked, Holds}
+use Rattle.pixel.proofs.Blocks.{row-there, data-there}
 use Rattle.pixel.proofs.Cells.{run-next}
+use Rattle.pixel.proofs.Given.{given-same, given-written}
 use Rattle.pixel.proofs.Part.{back, part-run, pixel-part}
 use Rattle.predictor.specs.Row.{around, residual, rowPredicted, leftResidual}
-use Rattle.predictor.proofs.Blocks.{run-given}
-use Rattle.predictor.proofs.Rows.{row-there, pair-there, data-there, predicted-first, predicted-left, row-predicted, whole}
+use Rattle.predictor.proofs.Rows.{pair-there, predicted-first, predicted-left, row-predicted}
 
 -- ---- row 0
 
@@ -37,7 +37,7 @@ module _ (w bits : ℕ) (D p : Picture) (h : 1 ≤ w) where
   stored-first-row xs ys zs v e q f =
       let first : ys ≡ run pixelCells (given (residuals w bits D p)) 0 (1 - 0) xs = e ∙ ap (putPixel xs 0) (q ∙ sym first-black) in
       run-next pixelCells (given (residuals w bits D p)) 0 1 w xs ys zs (omega arith) h first
-      (f ∙ run-given (leftResidual p) (residuals w bits D p) 1 ys (w - 1) (λ i l u. others-left i l (omega arith)))
+      (f ∙ given-same (leftResidual p) (residuals w bits D p) 1 ys (w - 1) (λ i l u. others-left i l (omega arith)))
 
 -- ---- row y off the first
 
@@ -83,7 +83,7 @@ module _ (w h bits y : ℕ) (bs ps xs : List ℕ) (there : Holds w h ps) (room :
 -- ---- all rows
 
 pub stored-whole : (f : Picture) (w rows y : ℕ) (xs ys : List ℕ) → ys ≡ run pixelCells (given f) (0 * w) (y * w - 0 * w) xs → y ≡ rows → Holds w rows xs → ys ≡ written (rows * w) f xs
-unfolding given
 stored-whole f w rows y xs ys e q room =
-    whole (given f) w rows y xs ys e q room
-    ∙ written-same (rows * w) (inOrder (given f) (rows * w) (pixels xs)) f xs (λ i l. inOrder-at (given f) (pixels xs) (rows * w) i l)
+    let z : 0 * w ≡ 0 = omega arith in
+    let n : y * w - 0 * w ≡ rows * w = rw q (omega arith) in
+    e ∙ rw (n, z) (given-written f (rows * w) xs room)

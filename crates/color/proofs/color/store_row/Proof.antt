@@ -8,7 +8,8 @@ use Rattle.format.specs.Picture.{pixels}
 use Rattle.format.specs.Color.{transformColor}
 use Rattle.pixel.specs.Cells.{pixelCells, run}
 use Rattle.color.specs.Row.{outOf, pointwise, inRow}
-use Rattle.color.proofs.Blocks.{block-there, block-more}
+use Rattle.pixel.proofs.Blocks.{block-there}
+use Rattle.color.proofs.Blocks.{block-more}
 use Rattle.color.proofs.Pointwise.{run-zero, run-all}
 use Rattle.color.proofs.color.store_row.Statement.{statement}
 use Rattle.color.proofs.color.store_row.Tie as tie

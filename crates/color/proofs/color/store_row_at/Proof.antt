@@ -4,21 +4,22 @@ use native.Mathlib.Omega.{arith}
 use borrow.Author.Needs.{needs}
 use lib.ListN.{length}
 use Rattle.format.specs.Color.{transformColor}
-use Rattle.color.proofs.Blocks.{row-there, blocks-there, row-blocks}
+use Rattle.pixel.proofs.Blocks.{row-there, blocks-there}
+use Rattle.color.proofs.Blocks.{row-blocks}
 use Rattle.color.proofs.Pointwise.{pixels-part, lent}
 use Rattle.color.proofs.color.store_row_at.Statement.{statement}
 use Rattle.color.proofs.color.store_row_at.Tie as tie
 
 -- the row is inside the picture
 there : (s : tie.Start) → s .args .y * s .args .width + s .args .width ≤ s .args .height * s .args .width
-there s = row-there (s .args .y) (s .args .height) (s .args .width) (omega arith)
+there s = row-there (s .args .width) (s .args .height) (s .args .y) (omega arith)
 
 -- and so are the data of its row of blocks
 across : (c : tie.After-subsample-size)
     → 4 * (c .before .before .before .before .args .y / 2 ^ c .before .before .before .before .args .bits * c .subsample-size .result) + 4 * c .subsample-size .result ≤ length (c .before .before .before .before .args .blocks .now)
 across c =
     let a = c .before .before .before .before .args in
-    rw (c .subsample-size .ensures) (omega (arith, blocks-there (a .height) (a .width) (a .bits) (a .y) (omega arith)))
+    rw (c .subsample-size .ensures) (omega (arith, blocks-there (a .width) (a .height) (a .bits) (a .y) (omega arith)))
 
 pub store-row-at-spec : {M : Type 1} → statement M
 store-row-at-spec =

@@ -3,14 +3,14 @@ use mathlib.Core.Path.{refl}
 use Prim.Native.Nat.{_+_, _*_, _≤_}
 use native.Mathlib.Omega.{arith}
 use borrow.Author.Needs.{needs}
-use Rattle.color.proofs.Blocks.{row-there}
+use Rattle.pixel.proofs.Blocks.{row-there}
 use Rattle.color.proofs.Pointwise.{lent}
 use Rattle.color.proofs.subtract_green.rebuild_row_at.Statement.{statement}
 use Rattle.color.proofs.subtract_green.rebuild_row_at.Tie as tie
 
 -- the row is inside the picture
 there : (s : tie.Start) → s .args .y * s .args .width + s .args .width ≤ s .args .height * s .args .width
-there s = row-there (s .args .y) (s .args .height) (s .args .width) (omega arith)
+there s = row-there (s .args .width) (s .args .height) (s .args .y) (omega arith)
 
 pub rebuild-row-at-spec : {M : Type 1} → statement M
 rebuild-row-at-spec =

@@ -1,7 +1,8 @@
 -- `rebuild_row_at` meets its contract: row 0 by its own rule, the others by theirs.
 use native.Mathlib.Omega.{arith}
 use borrow.Author.Needs.{needs}
-use Rattle.predictor.proofs.Rows.{row-there, row-zero}
+use Rattle.pixel.proofs.Blocks.{row-there}
+use Rattle.predictor.proofs.Rows.{row-zero}
 use Rattle.predictor.proofs.rebuild.rebuild_row_at.Statement.{statement}
 use Rattle.predictor.proofs.rebuild.rebuild_row_at.Tie as tie
 

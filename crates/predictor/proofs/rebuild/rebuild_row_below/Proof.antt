@@ -4,7 +4,8 @@ use Prim.Native.Nat.{_+_, _-_, _*_, _/_, _^_, _≤_}
 use native.Mathlib.Omega.{arith}
 use borrow.Author.Needs.{needs}
 use lib.ListN.{length}
-use Rattle.predictor.proofs.Rows.{pair-there, data-there, row-back}
+use Rattle.pixel.proofs.Blocks.{data-there}
+use Rattle.predictor.proofs.Rows.{pair-there, row-back}
 use Rattle.predictor.proofs.rebuild.rebuild_row_below.Statement.{statement}
 use Rattle.predictor.proofs.rebuild.rebuild_row_below.Tie as tie
 

@@ -3,7 +3,7 @@ use mathlib.Core.Path.{refl}
 use borrow.Author.Needs.{needs}
 use native.Mathlib.Omega.{arith}
 use Rattle.format.specs.Picture.{pixels}
-use Rattle.predictor.proofs.Blocks.{block-there}
+use Rattle.pixel.proofs.Blocks.{block-there}
 use Rattle.predictor.proofs.row.mode_at.Statement.{statement}
 use Rattle.predictor.proofs.row.mode_at.Tie as tie
 

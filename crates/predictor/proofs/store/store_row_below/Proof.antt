@@ -4,7 +4,8 @@ use Prim.Native.Nat.{_+_, _-_, _*_, _/_, _^_, _≤_}
 use native.Mathlib.Omega.{arith}
 use borrow.Author.Needs.{needs}
 use lib.ListN.{length}
-use Rattle.predictor.proofs.Rows.{row-there, pair-there, data-there}
+use Rattle.pixel.proofs.Blocks.{row-there, data-there}
+use Rattle.predictor.proofs.Rows.{pair-there}
 use Rattle.predictor.proofs.StoredRows.{stored-back}
 use Rattle.predictor.proofs.store.store_row_below.Statement.{statement}
 use Rattle.predictor.proofs.store.store_row_below.Tie as tie

@@ -1,0 +1,111 @@
+-- Rows of a table replaced one by one.
+use mathlib.Core.List.{List, [], _∷_}
+use mathlib.Core.Path.{_≡_, refl, _∙_}
+use Prim.Native.Nat.{ℕ, _+_, _*_, _/_, _%_, _<_, _≤_}
+use native.Mathlib.Nat.{mod-lt, div-lt-iff-lt-mul, mul-le-mul}
+use native.Mathlib.Decide.{ℕ-discrete, decLt}
+use native.Mathlib.Omega.{arith}
+use borrow.Author.Tests.{lt-ltb, le-ltb}
+use lib.ListN.{length, getD, set, replicate, getD-replicate, List·getD-eq-default}
+use lib.Seq.{getD-set-same, getD-set-other}
+use Rattle.format.specs.declared.Pixel.{Pixel}
+use Rattle.format.specs.Pixel.{pixel, clear}
+use Rattle.format.specs.Picture.{Picture, byteAt}
+use Rattle.format.specs.ColorTable.{entry}
+use Rattle.color_table.specs.Table.{entryIn, firstIn, secondIn, pairBytes, TableOf, PairsOf}
+
+module _ (u : ℕ) (least : 1 ≤ u) (most : u ≤ 16) where
+  pub square-small : u * u ≤ 256
+  square-small = mul-le-mul most most
+
+  pub low-small : (k : ℕ) → k % u < u
+  low-small k = mod-lt k least
+
+  pub high-small : (k : ℕ) → k < u * u → k / u < u
+  high-small k l = div-lt-iff-lt-mul least .1 l
+
+pub square-some : (u : ℕ) → 1 ≤ u → 0 < u * u
+square-some u h = mul-le-mul h h
+
+-- ---- no entries
+
+pub no-entry : (i : ℕ) → entryIn (replicate 256 (0 ∷ 0 ∷ 0 ∷ 0 ∷ [])) i ≡ clear
+unfolding entryIn
+no-entry i = go (decLt i 256)
+  where
+    t : List (List ℕ)
+    t = replicate 256 (0 ∷ 0 ∷ 0 ∷ 0 ∷ [])
+
+    row : (r : List ℕ) → getD t i [] ≡ r → (byteAt r 0 ≡ 0) × (byteAt r 1 ≡ 0) × (byteAt r 2 ≡ 0) × (byteAt r 3 ≡ 0)
+        → pixel (byteAt (getD t i []) 0) (byteAt (getD t i []) 1) (byteAt (getD t i []) 2) (byteAt (getD t i []) 3) ≡ clear
+    row r e z = let a = z .0 in let b = z .1 in let c = z .2 in let d = z .3 in cc
+
+    go : Dec (i < 256) → pixel (byteAt (getD t i []) 0) (byteAt (getD t i []) 1) (byteAt (getD t i []) 2) (byteAt (getD t i []) 3) ≡ clear
+    go (yes l) = row (0 ∷ 0 ∷ 0 ∷ 0 ∷ []) (getD-replicate 256 i (0 ∷ 0 ∷ 0 ∷ 0 ∷ []) [] l) (refl, refl, refl, refl)
+    go (no n) = row [] (List·getD-eq-default t [] {n = i} (omega arith)) (refl, refl, refl, refl)
+
+-- ---- one row replaced
+
+abbrev pub entryBytes : Pixel → List ℕ
+entryBytes v = v .red ∷ v .green ∷ v .blue ∷ v .alpha ∷ []
+
+module _ (t : List (List ℕ)) (i : ℕ) where
+  entry-set : (v : Pixel) → i < length t → entryIn (set t i (entryBytes v)) i ≡ v
+  unfolding entryIn
+  entry-set v l = let r = getD-set-same t i (entryBytes v) [] l in cc
+
+  entry-other : (r : List ℕ) (j : ℕ) → (j ≡ i → ⊥) → entryIn (set t i r) j ≡ entryIn t j
+  unfolding entryIn
+  entry-other r j n = let e = getD-set-other t i j r [] n in cc
+
+  pub entries-more : (f : Picture) (v : Pixel) → ((j : ℕ) → j < i → entryIn t j ≡ f j) → v ≡ f i → i < length t → (j : ℕ) → j < i + 1 → entryIn (set t i (entryBytes v)) j ≡ f j
+  entries-more f v h e l j k = go (ℕ-discrete j i)
+    where
+      go : Dec (j ≡ i) → entryIn (set t i (entryBytes v)) j ≡ f j
+      go (yes q) = rw q (entry-set v l ∙ e)
+      go (no n) = entry-other (entryBytes v) j n ∙ h j (omega arith)
+
+  pub clear-more : (r : List ℕ) → ((j : ℕ) → i ≤ j → entryIn t j ≡ clear) → (j : ℕ) → i + 1 ≤ j → entryIn (set t i r) j ≡ clear
+  clear-more r h j k = entry-other r j (λ e. omega arith) ∙ h j (omega arith)
+
+-- all entries are there
+pub padded-whole : (size i : ℕ) (e : Picture) (t : List (List ℕ)) → ((j : ℕ) → j < i → entryIn t j ≡ e j) → ((j : ℕ) → i ≤ j → entryIn t j ≡ clear) → i ≡ size → TableOf 256 (entry size e) t
+padded-whole size i e t h z q = record { at = λ j l. go j (decLt j size) }
+  where
+    go : (j : ℕ) → Dec (j < size) → entryIn t j ≡ entry size e j
+    go j (yes k) = rw (lt-ltb j size k) (h j (omega arith))
+    go j (no k) = let g : size ≤ j = omega arith in rw (le-ltb j size g) (z j (omega arith))
+
+-- ---- pairs
+
+-- the first k pairs are there
+pub record Pairs (u k : ℕ) (t p : List (List ℕ)) : Type 0 where
+  pub first : (j : ℕ) → j < k → firstIn p j ≡ entryIn t (j % u)
+  pub second : (j : ℕ) → j < k → secondIn p j ≡ entryIn t (j / u)
+
+pub pairs-none : (u : ℕ) (t p : List (List ℕ)) → Pairs u 0 t p
+pairs-none u t p = record { first = λ j l. absurd (no j l); second = λ j l. absurd (no j l) }
+  where
+    no : (j : ℕ) → j < 0 → ⊥
+    no j l = omega arith
+
+pub pairs-more : (u k : ℕ) (t p : List (List ℕ)) (r : List ℕ) → Pairs u k t p → r ≡ pairBytes (entryIn t (k % u)) (entryIn t (k / u)) → k < length p → Pairs u (k + 1) t (set p k r)
+unfolding firstIn secondIn
+pairs-more u k t p r h e l = record { first = λ j m. one j m (ℕ-discrete j k); second = λ j m. two j m (ℕ-discrete j k) }
+  where
+    same : getD (set p k r) k [] ≡ pairBytes (entryIn t (k % u)) (entryIn t (k / u))
+    same = getD-set-same p k r [] l ∙ e
+
+    one : (j : ℕ) → j < k + 1 → Dec (j ≡ k) → firstIn (set p k r) j ≡ entryIn t (j % u)
+    one j m (yes q) = rw q (let s = same in cc)
+    one j m (no n) = let o = getD-set-other p k j r [] n in let f = h .first j (omega arith) in cc
+
+    two : (j : ℕ) → j < k + 1 → Dec (j ≡ k) → secondIn (set p k r) j ≡ entryIn t (j / u)
+    two j m (yes q) = rw q (let s = same in cc)
+    two j m (no n) = let o = getD-set-other p k j r [] n in let f = h .second j (omega arith) in cc
+
+pub pairs-whole : (u k : ℕ) (t p : List (List ℕ)) → Pairs u k t p → u * u ≤ k → 1 ≤ u → (e : Picture) → TableOf u e t → PairsOf u e p
+pairs-whole u k t p h l pos e t-of = record {
+  first = λ j m. h .first j (omega arith) ∙ t-of .at (j % u) (mod-lt j pos);
+  second = λ j m. h .second j (omega arith) ∙ t-of .at (j / u) (div-lt-iff-lt-mul pos .1 m);
+}

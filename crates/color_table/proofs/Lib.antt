@@ -1,0 +1,6 @@
+pub mod Entries
+pub mod Rows
+pub mod Looked
+pub mod Index
+pub mod Digits
+pub mod Strip

@@ -1,0 +1,17 @@
+-- `per_pixel` meets its contract, test by test.
+use mathlib.Core.Path.{refl}
+use native.Mathlib.Omega.{arith}
+use borrow.Author.Tests.{le-leb, lt-leb}
+use Rattle.format.specs.ColorTable.{perPixel}
+use Rattle.color_table.proofs.table.per_pixel.Statement.{statement}
+use Rattle.color_table.proofs.table.per_pixel.Tie as tie
+
+pub per-pixel-spec : {M : Type 1} → statement M
+unfolding perPixel
+per-pixel-spec =
+    tie.close
+    (tie.spec
+    (λ c. rw (le-leb _ _ (c .if1 .taken)) (refl, omega arith, omega arith))
+    (λ c. rw (lt-leb _ _ (c .before .if1 .left), le-leb _ _ (c .if2 .taken)) (refl, omega arith, omega arith))
+    (λ c. rw (lt-leb _ _ (c .before .before .if1 .left), lt-leb _ _ (c .before .if2 .left), le-leb _ _ (c .if3 .taken)) (refl, omega arith, omega arith))
+    (λ c. rw (lt-leb _ _ (c .before .before .if1 .left), lt-leb _ _ (c .before .if2 .left), lt-leb _ _ (c .if3 .left)) (refl, omega arith, omega arith)))

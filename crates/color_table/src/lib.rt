@@ -1,0 +1,4 @@
+// The color table: unpacking indices in place, and storing a picture as packed indices.
+pub mod pack;
+pub mod table;
+pub mod unpack;

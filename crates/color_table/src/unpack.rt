@@ -1,0 +1,301 @@
+// Unpacking in place: the buffer's front holds the packed rows, and it becomes the expanded rows. Rows are done from the bottom and each row from the
+// right, because an expanded pixel may lie where a packed one of the same row or of a row above stands.
+use crate::table::entry_at;
+use crate::table::first_at;
+use crate::table::index_range;
+use crate::table::padded;
+use crate::table::paired;
+use crate::table::per_pixel;
+use crate::table::second_at;
+use format::Pixel;
+use pixel::pixel::put_pixel;
+ghost use mathlib.Core.Path.{_≡_};
+ghost use Prim.Native.Nat.{_+_, _-_, _*_, _/_, _%_, _<_, _≤_};
+ghost use lib.ListN.{length};
+ghost use Rattle.format.specs.Picture.{Picture, pixels, written};
+ghost use Rattle.format.specs.ColorTable.{perPixel, range, packedWidth, entry, unpacked};
+ghost use Rattle.pixel.specs.Cells.{pixelCells, putPixel, run, given};
+ghost use Rattle.pixel.specs.Sizes.{Sized, Holds};
+ghost use Rattle.color_table.specs.Table.{entryIn, firstIn, secondIn, TableOf, PairsOf};
+ghost use Rattle.color_table.specs.Unpack.{spread, rowOf, looked};
+
+// Columns of a row of packed pixels.
+pub struct Packed(pub usize);
+
+// Columns of a row of the picture.
+pub struct Expanded(pub usize);
+
+// The packed columns of a row.
+pub fn packed_width(expanded: Expanded, size: usize) -> Packed
+    requires { ⌜ expanded .0 ≤ 16384 ⌝ }
+    ensures { λ r. ⌜ r .0 ≡ packedWidth size (expanded .0) ⌝ }
+{
+    let n = per_pixel(size);
+    Packed((expanded.0 + n - 1) / n)
+}
+
+// The byte of packed pixel k.
+fn packed_byte(part: &[u8], k: usize) -> usize
+    requires { ⌜ 4 * k + 4 ≤ length (now part) ⌝ }
+    ensures { λ r. ⌜ (r ≡ pixels (now (part .entry)) k .green) × (r < 256) ⌝ }
+{
+    part[4 * k + 1] as usize
+}
+
+// Pair k as pixels i and i + 1. Both are read before one is written, so that the eight bytes are moved at once.
+fn put_pair(part: &mut [u8], i: usize, pairs: &[[u8; 8]; 256], k: usize)
+    requires { ⌜ (4 * i + 8 ≤ length (now part)) × (k < 256) ⌝ }
+    ensures { λ _. ⌜ now (part .exit) ≡ putPixel (putPixel (now (part .entry)) i (firstIn (now (pairs .entry)) k)) (i + 1) (secondIn (now (pairs .entry)) k) ⌝ }
+{
+    let u = first_at(pairs, k);
+    let v = second_at(pairs, k);
+    put_pixel(part, i, u);
+    put_pixel(part, i + 1, v);
+}
+
+// The pixels of the n indices of `byte`, from pixel a on, two at a time.
+fn expand(part: &mut [u8], a: usize, n: usize, range: usize, byte: usize, pairs: &[[u8; 8]; 256])
+    requires { ⌜ (n % 2 ≡ 0) × (1 ≤ range) × (range ≤ 16) × (4 * (a + n) ≤ length (now part)) ⌝ }
+    ensures { λ _. ⌜ ((e : Picture) → PairsOf range e (now (pairs .entry)) → now (part .exit) ≡ run pixelCells (given (spread range e byte a)) a n (now (part .entry))) ⌝ }
+{
+    let mut b = byte;
+    let mut k = 0;
+    while k < n {
+        put_pair(part, a + k, pairs, b % (range * range));
+        b = b / (range * range);
+        k += 2;
+    }
+}
+
+// The pixels of the first `count` indices of `byte`, from pixel a on.
+fn expand_last(
+    part: &mut [u8],
+    a: usize,
+    count: usize,
+    range: usize,
+    byte: usize,
+    table: &[[u8; 4]; 256],
+)
+    requires { ⌜ (1 ≤ range) × (range ≤ 16) × (4 * (a + count) ≤ length (now part)) ⌝ }
+    ensures { λ _. ⌜ ((e : Picture) → TableOf range e (now (table .entry)) → now (part .exit) ≡ run pixelCells (given (spread range e byte a)) a count (now (part .entry))) ⌝ }
+{
+    let mut b = byte;
+    let mut k = 0;
+    while k < count {
+        put_pixel(part, a + k, entry_at(table, b % range));
+        b = b / range;
+        k += 1;
+    }
+}
+
+// The columns of packed pixel k of the row that starts at pixel `first`.
+fn unpack_pixel(
+    part: &mut [u8],
+    first: usize,
+    k: usize,
+    n: usize,
+    range: usize,
+    pairs: &[[u8; 8]; 256],
+)
+    requires { ⌜ (n % 2 ≡ 0) × (1 ≤ n) × (1 ≤ range) × (range ≤ 16) × (4 * (first + k * n + n) ≤ length (now part)) ⌝ }
+    ensures { λ _. ⌜ ((e : Picture) → PairsOf range e (now (pairs .entry)) → now (part .exit) ≡ run pixelCells (given (rowOf range n e (pixels (now (part .entry))) first)) (first + k * n) n (now (part .entry))) ⌝ }
+{
+    let byte = packed_byte(part, k);
+    expand(part, first + k * n, n, range, byte, pairs);
+}
+
+// The columns of the first `count` packed pixels.
+fn unpack_pixels(
+    part: &mut [u8],
+    first: usize,
+    count: usize,
+    n: usize,
+    range: usize,
+    pairs: &[[u8; 8]; 256],
+)
+    requires { ⌜ (n % 2 ≡ 0) × (1 ≤ n) × (1 ≤ range) × (range ≤ 16) × (4 * (first + count * n) ≤ length (now part)) ⌝ }
+    ensures { λ _. ⌜ ((e : Picture) → PairsOf range e (now (pairs .entry)) → now (part .exit) ≡ run pixelCells (given (rowOf range n e (pixels (now (part .entry))) first)) first (count * n) (now (part .entry))) ⌝ }
+{
+    let mut k = count;
+    while 0 < k {
+        k -= 1;
+        unpack_pixel(part, first, k, n, range, pairs);
+    }
+}
+
+// The columns of the last packed pixel, number k, which may be partial.
+fn unpack_last(
+    part: &mut [u8],
+    first: usize,
+    k: usize,
+    width: usize,
+    n: usize,
+    range: usize,
+    table: &[[u8; 4]; 256],
+)
+    requires { ⌜ (1 ≤ n) × (k * n < width) × (width ≤ k * n + n) × (1 ≤ range) × (range ≤ 16) × (4 * (first + width) ≤ length (now part)) ⌝ }
+    ensures { λ _. ⌜ ((e : Picture) → TableOf range e (now (table .entry)) → now (part .exit) ≡ run pixelCells (given (rowOf range n e (pixels (now (part .entry))) first)) (first + k * n) (width - k * n) (now (part .entry))) ⌝ }
+{
+    let byte = packed_byte(part, k);
+    expand_last(part, first + k * n, width - k * n, range, byte, table);
+}
+
+// A row: `part` starts with its packed pixels, and its columns go to `width` pixels from pixel `first` on.
+fn unpack_row(
+    part: &mut [u8],
+    first: usize,
+    width: usize,
+    n: usize,
+    range: usize,
+    table: &[[u8; 4]; 256],
+    pairs: &[[u8; 8]; 256],
+)
+    requires { ⌜ (n % 2 ≡ 0) × (1 ≤ n) × (n ≤ 8) × (1 ≤ range) × (range ≤ 16) × (1 ≤ width) × (4 * (first + width) ≤ length (now part)) ⌝ }
+    ensures { λ _. ⌜ ((e : Picture) → TableOf range e (now (table .entry)) → PairsOf range e (now (pairs .entry)) → now (part .exit) ≡ run pixelCells (given (rowOf range n e (pixels (now (part .entry))) first)) first width (now (part .entry))) ⌝ }
+{
+    let k = (width + n - 1) / n - 1;
+    unpack_last(part, first, k, width, n, range, table);
+    unpack_pixels(part, first, k, n, range, pairs);
+}
+
+// The same by the table's size: in each arm n is a constant, for which the loops are compiled.
+fn unpack_band(
+    part: &mut [u8],
+    first: usize,
+    width: usize,
+    size: usize,
+    table: &[[u8; 4]; 256],
+    pairs: &[[u8; 8]; 256],
+)
+    requires { ⌜ (size ≤ 16) × (1 ≤ width) × (4 * (first + width) ≤ length (now part)) ⌝ }
+    ensures { λ _. ⌜ ((e : Picture) → TableOf (range (perPixel size)) e (now (table .entry)) → PairsOf (range (perPixel size)) e (now (pairs .entry)) → now (part .exit) ≡ run pixelCells (given (rowOf (range (perPixel size)) (perPixel size) e (pixels (now (part .entry))) first)) first width (now (part .entry))) ⌝ }
+{
+    if size <= 2 {
+        unpack_row(part, first, width, 8, 2, table, pairs);
+    } else if size <= 4 {
+        unpack_row(part, first, width, 4, 4, table, pairs);
+    } else {
+        unpack_row(part, first, width, 2, 16, table, pairs);
+    }
+}
+
+// Row y of the picture. Its part of the buffer goes from its packed pixels to its last column.
+fn unpack_row_at(
+    image: &mut [u8],
+    y: usize,
+    packed: Packed,
+    expanded: Expanded,
+    size: usize,
+    table: &[[u8; 4]; 256],
+    pairs: &[[u8; 8]; 256],
+)
+    requires { ⌜ (size ≤ 16) × (1 ≤ expanded .0) × (packed .0 ≡ packedWidth size (expanded .0)) × (4 * (y * expanded .0 + expanded .0) ≤ length (now image)) ⌝ }
+    ensures { λ _. ⌜ ((e : Picture) → TableOf (range (perPixel size)) (entry size e) (now (table .entry)) → PairsOf (range (perPixel size)) (entry size e) (now (pairs .entry)) → now (image .exit) ≡ run pixelCells (given (unpacked (expanded .0) size e (pixels (now (image .entry))))) (y * expanded .0) (expanded .0) (now (image .entry))) ⌝ }
+{
+    let c = packed.0;
+    let w = expanded.0;
+    let a = 4 * (y * c);
+    let b = 4 * (y * w + w);
+    unpack_band(&mut image[a..b], y * w - y * c, w, size, table, pairs);
+}
+
+// The rows of a picture whose packed pixels hold several indices.
+fn unpack_rows(image: &mut [u8], width: usize, height: usize, size: usize, table: [[u8; 4]; 256])
+    requires { ⌜ Sized width height ⌝ }
+    requires { ⌜ Holds width height (now image) ⌝ }
+    requires { ⌜ size ≤ 16 ⌝ }
+    ensures { λ _. ⌜ ((e : Picture) → TableOf 256 (entry size e) table → now (image .exit) ≡ run pixelCells (given (unpacked width size e (pixels (now (image .entry))))) 0 (height * width) (now (image .entry))) ⌝ }
+{
+    let pairs = paired(table, index_range(size));
+    let packed = packed_width(Expanded(width), size);
+    let mut y = height;
+    while 0 < y {
+        unpack_row_at(image, y - 1, packed, Expanded(width), size, &table, &pairs);
+        y -= 1;
+    }
+}
+
+// The pixel that packed pixel i stands for, where it is an index itself.
+fn look_up(part: &[u8], i: usize, table: &[[u8; 4]; 256]) -> Pixel
+    requires { ⌜ 4 * i + 4 ≤ length (now part) ⌝ }
+    ensures { λ r. ⌜ r ≡ looked (entryIn (now (table .entry))) (pixels (now (part .entry))) i ⌝ }
+{
+    entry_at(table, packed_byte(part, i))
+}
+
+// The entries at p and q as pixels i and i + 1. Both are read before one is written, so that the eight bytes are moved at once.
+fn put_entries(part: &mut [u8], i: usize, p: usize, q: usize, table: &[[u8; 4]; 256])
+    requires { ⌜ (4 * i + 8 ≤ length (now part)) × (p < 256) × (q < 256) ⌝ }
+    ensures { λ _. ⌜ now (part .exit) ≡ putPixel (putPixel (now (part .entry)) i (entryIn (now (table .entry)) p)) (i + 1) (entryIn (now (table .entry)) q) ⌝ }
+{
+    let u = entry_at(table, p);
+    let v = entry_at(table, q);
+    put_pixel(part, i, u);
+    put_pixel(part, i + 1, v);
+}
+
+// Four at a time: all indices are read before a pixel is written, so that the reads do not wait.
+fn look_up_four(part: &mut [u8], i: usize, table: &[[u8; 4]; 256])
+    requires { ⌜ 4 * i + 16 ≤ length (now part) ⌝ }
+    ensures { λ _. ⌜ now (part .exit) ≡ run pixelCells (given (looked (entryIn (now (table .entry))) (pixels (now (part .entry))))) i 4 (now (part .entry)) ⌝ }
+{
+    let p = packed_byte(part, i);
+    let q = packed_byte(part, i + 1);
+    let r = packed_byte(part, i + 2);
+    let s = packed_byte(part, i + 3);
+    put_entries(part, i, p, q, table);
+    put_entries(part, i + 2, r, s, table);
+}
+
+fn look_up_fours(part: &mut [u8], count: usize, table: &[[u8; 4]; 256])
+    requires { ⌜ (count % 4 ≡ 0) × (4 * count ≤ length (now part)) ⌝ }
+    ensures { λ _. ⌜ now (part .exit) ≡ run pixelCells (given (looked (entryIn (now (table .entry))) (pixels (now (part .entry))))) 0 count (now (part .entry)) ⌝ }
+{
+    let mut i = 0;
+    while i < count {
+        look_up_four(part, i, table);
+        i += 4;
+    }
+}
+
+fn look_up_rest(part: &mut [u8], from: usize, count: usize, table: &[[u8; 4]; 256])
+    requires { ⌜ (from ≤ count) × (4 * count ≤ length (now part)) ⌝ }
+    ensures { λ _. ⌜ now (part .exit) ≡ run pixelCells (given (looked (entryIn (now (table .entry))) (pixels (now (part .entry))))) from (count - from) (now (part .entry)) ⌝ }
+{
+    let mut i = from;
+    while i < count {
+        put_pixel(part, i, look_up(part, i, table));
+        i += 1;
+    }
+}
+
+// Packed pixels of one index each stay where they are: front to back, as memory is read fastest.
+fn look_up_pixels(image: &mut [u8], count: usize, table: [[u8; 4]; 256])
+    requires { ⌜ 4 * count ≤ length (now image) ⌝ }
+    ensures { λ _. ⌜ now (image .exit) ≡ run pixelCells (given (looked (entryIn table) (pixels (now (image .entry))))) 0 count (now (image .entry)) ⌝ }
+{
+    let whole = count / 4 * 4;
+    look_up_fours(image, whole, &table);
+    look_up_rest(image, whole, count, &table);
+}
+
+// The whole picture, in one buffer.
+pub fn apply_color_indexing_transform(
+    image: &mut [u8],
+    width: usize,
+    height: usize,
+    size: usize,
+    entries: &[u8],
+)
+    requires { ⌜ Sized width height ⌝ }
+    requires { ⌜ Holds width height (now image) ⌝ }
+    requires { ⌜ (1 ≤ size) × (size ≤ 256) × (4 * size ≤ length (now entries)) ⌝ }
+    ensures { λ _. ⌜ now (image .exit) ≡ written (height * width) (unpacked width size (pixels (now (entries .entry))) (pixels (now (image .entry)))) (now (image .entry)) ⌝ }
+{
+    let table = padded(entries, size);
+    if size <= 16 {
+        unpack_rows(image, width, height, size, table);
+    } else {
+        look_up_pixels(image, height * width, table);
+    }
+}

@@ -4,6 +4,7 @@ use mathlib.Core.Path.{_≡_, refl, sym}
 use Prim.Native.Nat.{ℕ, _<_}
 use borrow.Author.Tests.{eqb-true, eq-eqb}
 use lib.Dec.{eqb}
+use Rattle.format.specs.Choice.{if_then_else_}
 use Rattle.format.specs.declared.Pixel.{Pixel}
 use Rattle.format.specs.Byte.{add, sub}
 use Rattle.format.specs.Pixel.{pixel, each, equal}
@@ -57,3 +58,9 @@ equal-true u v e =
 
 pub equal-refl : (v : Pixel) → equal v v ≡ true
 equal-refl v = rw (eq-eqb (v .red) (v .red) refl, eq-eqb (v .green) (v .green) refl, eq-eqb (v .blue) (v .blue) refl, eq-eqb (v .alpha) (v .alpha) refl)
+
+-- a choice in each channel is the choice of the pixel
+pub if-channels : (b : Bool) (u v : Pixel)
+    → pixel (if b then u .red else v .red) (if b then u .green else v .green) (if b then u .blue else v .blue) (if b then u .alpha else v .alpha) ≡ (if b then u else v)
+if-channels true u v = refl
+if-channels false u v = refl

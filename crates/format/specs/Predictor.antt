@@ -16,7 +16,7 @@ distanceTo u l t tl =
     + distance (l .blue + t .blue) (tl .blue + u .blue)
     + distance (l .alpha + t .alpha) (tl .alpha + u .alpha)
 
--- the sum over four channels of |u - v|
+-- the sum over four channels of |u - v|; |p - L| is |T - TL| and |p - T| is |L - TL|, which code computes
 abbrev pub between : Pixel → Pixel → ℕ
 between u v = distance (u .red) (v .red) + distance (u .green) (v .green) + distance (u .blue) (v .blue) + distance (u .alpha) (v .alpha)
 
@@ -24,7 +24,7 @@ between u v = distance (u .red) (v .red) + distance (u .green) (v .green) + dist
 unfoldable pub select : Pixel → Pixel → Pixel → Pixel
 select l t tl = if ltb (distanceTo l l t tl) (distanceTo t l t tl) then l else t
 
--- what modes 0 to 13 predict from L, T, TR and TL
+-- what modes 0 to 13 predict from L, T, TR and TL, in the order of the table in the RFC
 abbrev pub predictions : Pixel → Pixel → Pixel → Pixel → List Pixel
 predictions l t tr tl =
     black

@@ -10,6 +10,7 @@ use std::num::wrapping_sub_u8;
 ghost use mathlib.Core.Path.{_≡_};
 ghost use Prim.Native.Nat.{_+_, _*_, _≤_};
 ghost use lib.ListN.{length};
+ghost use Rattle.format.specs.Choice.{if_then_else_};
 ghost use Rattle.format.specs.Byte.{add, sub, avg, clampFull, clampHalf};
 ghost use Rattle.format.specs.Pixel.{each, each3};
 ghost use Rattle.format.specs.Picture.{pixels};
@@ -125,12 +126,27 @@ pub fn pixel_distance(u: Pixel, v: Pixel) -> u32
         + distance(u.alpha, v.alpha)
 }
 
+fn pick(first: bool, a: u8, b: u8) -> u8
+    ensures { λ r. ⌜ r ≡ (if first then a else b) ⌝ }
+{
+    if first { a } else { b }
+}
+
+// Channel by channel, which compiles to no branch.
+pub fn pick_pixel(first: bool, u: Pixel, v: Pixel) -> Pixel
+    ensures { λ r. ⌜ r ≡ (if first then u else v) ⌝ }
+{
+    Pixel {
+        red: pick(first, u.red, v.red),
+        green: pick(first, u.green, v.green),
+        blue: pick(first, u.blue, v.blue),
+        alpha: pick(first, u.alpha, v.alpha),
+    }
+}
+
 pub fn select(l: Pixel, t: Pixel, tl: Pixel) -> Pixel
     ensures { λ r. ⌜ r ≡ selected l t tl ⌝ }
 {
-    if pixel_distance(t, tl) < pixel_distance(l, tl) {
-        l
-    } else {
-        t
-    }
+    let near = pixel_distance(t, tl) < pixel_distance(l, tl);
+    pick_pixel(near, l, t)
 }

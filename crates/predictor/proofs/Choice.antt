@@ -9,19 +9,12 @@ use lib.ListN.{length}
 use Rattle.format.specs.Choice.{if_then_else_}
 use Rattle.format.specs.declared.Pixel.{Pixel}
 use Rattle.format.specs.Byte.{add}
-use Rattle.format.specs.Pixel.{pixel, each}
 use Rattle.format.specs.Picture.{pixels}
 use Rattle.format.specs.Predictor.{predict, between}
 use Rattle.format.proofs.Predictor.{select-between}
 use Rattle.pixel.specs.Cells.{putPixel}
 use Rattle.pixel.proofs.Cells.{pixel-same, pixel-other}
 use Rattle.predictor.specs.Row.{around, gains, leftNearer}
-
--- channel by channel
-pub pick-channels : (n : Bool) (u v : Pixel)
-    → pixel (if n then u .red else v .red) (if n then u .green else v .green) (if n then u .blue else v .blue) (if n then u .alpha else v .alpha) ≡ (if n then u else v)
-pick-channels true u v = refl
-pick-channels false u v = refl
 
 -- a function of the choice
 pub pick-after : {A B : Type 0} (f : A → B) (n : Bool) (x y : A) → (if n then f x else f y) ≡ f (if n then x else y)

@@ -2,6 +2,7 @@
 // does not wait for this pixel's choice, and no choice is a branch.
 use format::Pixel;
 use pixel::pixel::add_pixels;
+use pixel::pixel::pick_pixel;
 use pixel::pixel::pixel_at;
 use pixel::pixel::pixel_distance;
 use pixel::pixel::put_pixel;
@@ -20,23 +21,6 @@ ghost use Rattle.predictor.specs.Row.{around, gains, leftNearer, Inside,
 struct Turn {
     pixel: Pixel,
     near: bool,
-}
-
-fn pick(near: bool, a: u8, b: u8) -> u8
-    ensures { λ r. ⌜ r ≡ (if near then a else b) ⌝ }
-{
-    if near { a } else { b }
-}
-
-fn pick_pixel(near: bool, u: Pixel, v: Pixel) -> Pixel
-    ensures { λ r. ⌜ r ≡ (if near then u else v) ⌝ }
-{
-    Pixel {
-        red: pick(near, u.red, v.red),
-        green: pick(near, u.green, v.green),
-        blue: pick(near, u.blue, v.blue),
-        alpha: pick(near, u.alpha, v.alpha),
-    }
 }
 
 fn pick_bool(near: bool, a: bool, b: bool) -> bool

@@ -1,7 +1,6 @@
 -- `select` meets its contract: the test is the definition's, with what both sides share taken off.
-use mathlib.Core.Path.{sym, _∙_}
+use mathlib.Core.Path.{_∙_}
 use borrow.Author.Needs.{needs}
-use borrow.Author.Tests.{lt-ltb, le-ltb}
 use Rattle.format.proofs.Predictor.{select-between}
 use Rattle.pixel.proofs.pixel.select.Statement.{statement}
 use Rattle.pixel.proofs.pixel.select.Tie as tie
@@ -12,7 +11,6 @@ select-spec =
     (tie.spec
     (λ c κs. search needs)
     (λ c κs. search needs)
+    (λ c κs. search needs)
     (λ c.
-    rw (select-between, ← c .before .before .pixel-distance .ensures, ← c .before .pixel-distance2 .ensures, lt-ltb _ _ (c .if1 .taken)))
-    (λ c.
-    rw (select-between, ← c .before .before .pixel-distance .ensures, ← c .before .pixel-distance2 .ensures, le-ltb _ _ (c .if1 .left))))
+    c .pick-pixel .ensures ∙ rw (c .before .before .pixel-distance .ensures, c .before .pixel-distance2 .ensures, select-between)))

@@ -204,6 +204,30 @@ fn color_table_cases(random: &mut Xorshift) -> Vec<Case> {
             cases.push(color_table_case(random, width, height, size));
         }
     }
+    cases.extend(storable_cases(random));
+    cases
+}
+
+/// Every pixel has an entry, so that storing has to accept the picture.
+fn storable_cases(random: &mut Xorshift) -> Vec<Case> {
+    let mut cases = Vec::new();
+    for size in [1, 2, 3, 4, 5, 16, 17, 255, 256] {
+        let widths = WIDTHS.into_iter().take_while(|&width| width <= 17);
+        for (i, width) in (0..).zip(widths) {
+            let mut case = color_table_case(random, width, 1 + (i + size) % 3, size);
+            for pixel in case.input.chunks_exact_mut(4) {
+                pixel[1] = indices_in_range(random, size);
+            }
+            cases.push(case);
+        }
+    }
+    // Indices past the table too: they give (0, 0, 0, 0), which is an entry here.
+    for size in [1, 3, 5, 17, 255] {
+        let mut case = color_table_case(random, 17, 3, size);
+        let last = case.data.len() - 4;
+        case.data[last..].fill(0);
+        cases.push(case);
+    }
     cases
 }
 
@@ -308,6 +332,13 @@ fn take_greens(bytes: &mut [u8], greens: impl Iterator<Item = u8> + Clone) {
     for (pixel, green) in bytes.chunks_exact_mut(4).zip(greens.cycle()) {
         pixel[1] = green;
     }
+}
+
+/// A packed byte, every index below the size.
+fn indices_in_range(random: &mut Xorshift, size: u16) -> u8 {
+    let n = indices_in_byte(size);
+    let byte = (0..n).fold(0, |byte, _| byte << (8 / n) | random.below(size.into()));
+    byte as u8
 }
 
 fn indices_in_byte(size: u16) -> u16 {

@@ -26,7 +26,11 @@ impl Xorshift {
         (0..len).map(|_| self.byte()).collect()
     }
 
+    pub fn below(&mut self, bound: usize) -> usize {
+        (self.number() >> 32) as usize % bound
+    }
+
     pub fn choose<T: Copy>(&mut self, from: &[T]) -> T {
-        from[(self.number() >> 32) as usize % from.len()]
+        from[self.below(from.len())]
     }
 }

@@ -16,9 +16,10 @@ pub record Factors (e : Pixel) (gr gb rb : ℕ) : Type 0 where
   pub green-to-blue : Factor (greenToBlue e) gb
   pub red-to-blue : Factor (redToBlue e) rb
 
--- r is the delta of the byte whose factor is m, and w is pixel v by the data pixel whose factors they are
+-- r is the delta of the byte whose factor is m
 abbrev pub DeltaBy : ℕ → ℕ → ℕ → Type 0
 DeltaBy m c r = (t : ℕ) → Factor t m → r ≡ delta t c
 
+-- w is pixel v by the data pixel whose factors gr, gb and rb are
 abbrev pub PixelBy : (Pixel → Pixel → Pixel) → ℕ → ℕ → ℕ → Pixel → Pixel → Type 0
 PixelBy f gr gb rb v w = (e : Pixel) → Factors e gr gb rb → w ≡ f e v

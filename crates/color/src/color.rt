@@ -49,7 +49,7 @@ fn rebuild_pixel(v: Pixel, green_to_red: u32, green_to_blue: u32, red_to_blue: u
     }
 }
 
-fn reduce_pixel(v: Pixel, green_to_red: u32, green_to_blue: u32, red_to_blue: u32) -> Pixel
+fn store_pixel(v: Pixel, green_to_red: u32, green_to_blue: u32, red_to_blue: u32) -> Pixel
     requires { ⌜ («green_to_red» < 8192) × («green_to_blue» < 8192) × («red_to_blue» < 8192) ⌝ }
     ensures { λ r. ⌜ PixelBy transformColor «green_to_red» «green_to_blue» «red_to_blue» v r ⌝ }
 {
@@ -88,7 +88,7 @@ fn store_segment(row: &[u8], out: &mut [u8], from: usize, to: usize, e: Pixel)
     let red_to_blue = factor(e.red);
     let mut i = from;
     while i < to {
-        let v = reduce_pixel(read_pixel(row, i), green_to_red, green_to_blue, red_to_blue);
+        let v = store_pixel(read_pixel(row, i), green_to_red, green_to_blue, red_to_blue);
         write_pixel(out, i, v);
         i += 1;
     }
@@ -136,9 +136,9 @@ pub fn rebuild_row_at(
 {
     let a = 4 * (y * width);
     let b = a + 4 * width;
-    let across = subsample_size(width, bits);
-    let c = 4 * ((y >> bits) * across);
-    let d = c + 4 * across;
+    let bx = subsample_size(width, bits);
+    let c = 4 * ((y >> bits) * bx);
+    let d = c + 4 * bx;
     rebuild_row(&mut image[a..b], width, bits, &blocks[c..d]);
 }
 
@@ -157,9 +157,9 @@ pub fn store_row_at(
 {
     let a = 4 * (y * width);
     let b = a + 4 * width;
-    let across = subsample_size(width, bits);
-    let c = 4 * ((y >> bits) * across);
-    let d = c + 4 * across;
+    let bx = subsample_size(width, bits);
+    let c = 4 * ((y >> bits) * bx);
+    let d = c + 4 * bx;
     store_row(&picture[a..b], &mut strip[a..b], width, bits, &blocks[c..d]);
 }
 

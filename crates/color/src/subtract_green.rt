@@ -24,7 +24,7 @@ fn rebuild_pixel(v: Pixel) -> Pixel
     }
 }
 
-fn reduce_pixel(v: Pixel) -> Pixel
+fn store_pixel(v: Pixel) -> Pixel
     ensures { λ r. ⌜ r ≡ subtractGreen v ⌝ }
 {
     Pixel {
@@ -53,7 +53,7 @@ pub fn store_row(row: &[u8], out: &mut [u8], width: usize)
 {
     let mut i = 0;
     while i < width {
-        let v = reduce_pixel(read_pixel(row, i));
+        let v = store_pixel(read_pixel(row, i));
         write_pixel(out, i, v);
         i += 1;
     }

@@ -2,7 +2,7 @@
 use std::num::wrapping_add_u8;
 use std::num::wrapping_sub_u8;
 ghost use mathlib.Core.Path.{_≡_};
-ghost use Prim.Native.Nat.{_+_, _-_, _<_, _≤_};
+ghost use Prim.Native.Nat.{_-_, _<_, _≤_};
 ghost use lib.ListN.{length};
 ghost use Rattle.format.specs.Byte.{add, sub};
 ghost use Rattle.format.specs.Picture.{byteAt, writtenBytes};

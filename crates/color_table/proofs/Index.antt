@@ -98,9 +98,6 @@ module _ (size : ℕ) (e : Picture) where
 -- ---- acceptance
 
 module _ (size : ℕ) (e f : Picture) where
-  pub accepted-none : accepted size e 0 f ≡ true
-  accepted-none = refl
-
   pub accepted-more : (i k : ℕ) (u : Pixel) → accepted size e i f ≡ true → u ≡ f i → k ≡ indexOf size e u → k < size → accepted size e (i + 1) f ≡ true
   accepted-more i k u h p q l =
       let s : suc i ≡ i + 1 = omega arith in

@@ -1,19 +1,19 @@
 -- Packed pixels of one index each.
 use mathlib.Core.List.{List}
 use mathlib.Core.Path.{_≡_, sym, ap, _∙_}
-use Prim.Native.Nat.{ℕ, _+_, _-_, _%_, _<_, _≤_}
-use native.Mathlib.Nat.{add-zero, div-one, mod-one, div-add-mod', mod-lt, mod-eq-of-lt}
+use Prim.Native.Nat.{ℕ, _+_, _-_, _*_, _/_, _%_, _<_, _≤_}
+use native.Mathlib.Nat.{add-zero, zero-add, zero-mul, one-mul, add-mul, div-one, mod-one, div-add-mod', mod-lt, mod-eq-of-lt}
 use native.Mathlib.Omega.{arith}
 use borrow.Author.Tests.{lt-leb}
 use lib.Dec.{leb}
 use Rattle.format.specs.declared.Pixel.{Pixel}
 use Rattle.format.specs.Picture.{Picture, pixels}
-use Rattle.format.specs.ColorTable.{perPixel, entry, unpacked}
+use Rattle.format.specs.ColorTable.{perPixel, range, packedWidth, entry, unpacked}
 use Rattle.pixel.specs.Cells.{pixelCells, putPixel, run, given}
 use Rattle.pixel.proofs.Cells.{pixel-lawful, run-after, run-append}
 use Rattle.color_table.specs.Table.{entryIn, TableOf}
-use Rattle.color_table.specs.Unpack.{looked}
-use Rattle.pixel.proofs.Given.{given-same}
+use Rattle.color_table.specs.Unpack.{looked, rowOf}
+use Rattle.pixel.proofs.Given.{given-same, given-none}
 
 pub given-one : (f : Picture) (i : ℕ) (xs ys : List ℕ) (v : Pixel) → v ≡ f i → ys ≡ putPixel xs i v → ys ≡ run pixelCells (given f) i 1 xs
 unfolding run given
@@ -56,9 +56,50 @@ one-index size l =
     let b : leb size 4 ≡ _ = lt-leb size 4 (omega arith) in
     rw (a, b, lt-leb size 16 l)
 
-pub looked-whole : (w size : ℕ) (e g : Picture) (t : List (List ℕ)) (q : ℕ) → TableOf 256 (entry size e) t → 16 < size → looked (entryIn t) g q ≡ unpacked w size e g q
-unfolding looked unpacked
-looked-whole w size e g t q h l =
+module _ (size : ℕ) (e : Picture) (t : List (List ℕ)) (h : TableOf 256 e t) (l : 16 < size) where
+  looked-at : (g : Picture) (i : ℕ) → looked (entryIn t) g i ≡ rowOf (range (perPixel size)) (perPixel size) e g 0 i
+  unfolding looked rowOf
+  looked-at g i =
+      let k : i - 0 ≡ i = omega arith in
+      let b : g i .green % 256 < 256 = mod-lt (g i .green) {m = 256} (omega arith) in
+      rw (one-index size l, k, div-one i, mod-one i, div-one (g i .green)) (h .at (g i .green % 256) b)
+
+  pub looked-row : (first w : ℕ) (xs ys : List ℕ) → first ≡ 0 → ys ≡ run pixelCells (given (looked (entryIn t) (pixels xs))) 0 w xs
+      → ys ≡ run pixelCells (given (rowOf (range (perPixel size)) (perPixel size) e (pixels xs) first)) first w xs
+  looked-row first w xs ys z r =
+      rw z (r ∙ given-same (looked (entryIn t) (pixels xs)) (rowOf (range (perPixel size)) (perPixel size) e (pixels xs) 0) 0 xs w (λ i f u. looked-at (pixels xs) i))
+
+-- such rows stay where they are
+pub looked-stays : (size w y : ℕ) → 16 < size → y * w - y * packedWidth size w ≡ 0
+looked-stays size w y l =
     let k : w + 1 - 1 ≡ w = omega arith in
-    let b : g q .green % 256 < 256 = mod-lt (g q .green) {m = 256} (omega arith) in
-    rw (one-index size l, div-one (w + 1 - 1), div-one (q % w), mod-one (q % w), k, div-add-mod' q w, div-one (g q .green)) (h .at (g q .green % 256) b)
+    rw (one-index size l, div-one (w + 1 - 1), k) (omega arith)
+
+-- ---- the rows of the picture
+
+pub looked-none : (f : Picture) (w : ℕ) (xs : List ℕ) → xs ≡ run pixelCells (given f) 0 (0 * w) xs
+looked-none f w xs = rw zero-mul (given-none f 0 xs)
+
+pub looked-done : (f : Picture) (y h w : ℕ) (xs ys : List ℕ) → ys ≡ run pixelCells (given f) 0 (y * w) xs → y ≤ h → h ≤ y → ys ≡ run pixelCells (given f) 0 (h * w) xs
+looked-done f y h w xs ys e l u = let q : y ≡ h = omega arith in rw q at e
+
+module _ (w size : ℕ) (e : Picture) (some : 1 ≤ w) (l : 16 < size) where
+  -- a pixel is made of the one at its place
+  stays : (f g : Picture) (i : ℕ) → f i ≡ g i → unpacked w size e f i ≡ unpacked w size e g i
+  unfolding unpacked
+  stays f g i q =
+      let k : w + 1 - 1 ≡ w = omega arith in
+      rw (one-index size l, div-one (w + 1 - 1), div-one (i % w), mod-one (i % w), k, div-add-mod' i w) (ap (λ (v : Pixel). entry size e (v .green / 1 % 256)) q)
+
+  -- a row more, from the top
+  pub looked-more : (y : ℕ) (xs₀ xs ys : List ℕ) → xs ≡ run pixelCells (given (unpacked w size e (pixels xs₀))) 0 (y * w) xs₀ → ys ≡ run pixelCells (given (unpacked w size e (pixels xs))) (y * w) w xs
+      → ys ≡ run pixelCells (given (unpacked w size e (pixels xs₀))) 0 ((y + 1) * w) xs₀
+  looked-more y xs₀ xs ys r q =
+      let f = unpacked w size e (pixels xs₀) in
+      let kept : (j : ℕ) → y * w ≤ j → pixels xs j ≡ pixels xs₀ j =
+      λ j u. ap (λ (zs : List ℕ). pixels zs j) r ∙ run-after pixelCells pixel-lawful (given f) 0 xs₀ (y * w) j (omega arith) in
+      let z = add-mul y 1 w in
+      let o = one-mul w in
+      let a = zero-add (y * w) in
+      q ∙ given-same (unpacked w size e (pixels xs)) f (y * w) xs w (λ i t u. stays (pixels xs) (pixels xs₀) i (kept i t))
+      ∙ rw (z, o, r) (rw a at (run-append pixelCells (given f) 0 xs₀ (y * w) w))

@@ -76,7 +76,7 @@ row-spread u n e g first k i l m =
 pub packed-before : (k n : ℕ) → 1 ≤ n → k ≤ k * n
 packed-before k n h = let a = mul-le-mul-left k h in let b = mul-one k in omega arith
 
--- what is number k - 1 of parts of n is inside
+-- part k - 1 of `count` parts of n pixels is inside
 pub turn-room : (k count n : ℕ) → 0 < k → k ≤ count → (k - 1) * n + n ≤ count * n
 turn-room k count n p l =
     let s : suc (k - 1) ≡ k = omega arith in

@@ -23,7 +23,7 @@ every-all : (n : ℕ) (t : ℕ → Bool) → ((q : ℕ) → q < n → t q ≡ tr
 every-all zero t h = refl
 every-all (suc n) t h = and-both (t n) (every n t) (h n (omega arith)) (every-all n t (λ q l. h q (omega arith)))
 
--- what is n bytes of a part lent from pixel a on
+-- the length of a part of b pixels lent from pixel a on
 pub part-length : (a b k : ℕ) (xs : List ℕ) → k ≡ 4 * (a + b) - 4 * a → 4 * (a + b) ≤ length xs → length (take k (drop (4 * a) xs)) ≡ 4 * b
 part-length a b k xs q h = length-take-le k (drop (4 * a) xs) (rw (length-drop (4 * a) xs) (omega arith)) ∙ omega arith
 

@@ -8,15 +8,15 @@ use format::Pixel;
 use pixel::pixel::pixel_at;
 use pixel::pixel::put_pixel;
 ghost use mathlib.Core.Path.{_≡_};
-ghost use mathlib.Core.Bool.{true, false};
-ghost use Prim.Native.Nat.{ℕ, _+_, _-_, _*_, _/_, _%_, _^_, _<_, _≤_};
+ghost use mathlib.Core.Bool.{true};
+ghost use Prim.Native.Nat.{ℕ, _+_, _*_, _^_, _<_, _≤_};
 ghost use lib.ListN.{length};
 ghost use Rattle.format.specs.Pixel.{pixel, equal};
 ghost use Rattle.format.specs.Picture.{Picture, pixels, written};
-ghost use Rattle.format.specs.ColorTable.{range, packedWidth, indexOf, hasEntry, accepted, digits, packed as packedOf};
+ghost use Rattle.format.specs.ColorTable.{range, packedWidth, indexOf, hasEntry, accepted, digits, packed as packedOf, storedAnswer, storedStrip};
 ghost use Rattle.pixel.specs.Cells.{pixelCells, run, given};
 ghost use Rattle.pixel.specs.Sizes.{Sized, Holds};
-ghost use Rattle.color_table.specs.Pack.{answer, storedAnswer, storedStrip, rowIndices, Hints};
+ghost use Rattle.color_table.specs.Pack.{answer, rowIndices, Hints};
 
 pub enum Packing {
     // The picture is stored.
@@ -73,7 +73,7 @@ pub fn no_hints() -> [u8; 4096]
     [0u8; 4096]
 }
 
-// The same index by a hint: where the slot's entry equals v, its index is the lowest one; where not, the entries are looked at and the slot remembers.
+// The same index by a hint: where the slot's entry equals v, its index is the lowest one; where not, the entries are looked at and the slot takes the index.
 fn find(entries: &[u8], size: usize, hints: &mut [u8], v: Pixel) -> usize
     requires { ⌜ (1 ≤ size) × (size ≤ 256) × (4 * size ≤ length (now entries)) ⌝ }
     requires { ⌜ Hints size (pixels (now entries)) (now hints) ⌝ }
@@ -107,7 +107,7 @@ pub fn accept(row: &[u8], count: usize, entries: &[u8], size: usize, hints: &mut
     true
 }
 
-// The index of column a + k of a row; 0 past its end.
+// The index of column a + k of a row; 0 past its end. A row has at most 16384 columns: the bound is any that keeps the sum in range.
 fn index_at(
     row: &[u8],
     width: usize,
@@ -278,7 +278,7 @@ fn pack_rows(
 }
 
 // Stores a picture through the color table, or refuses it.
-pub fn store_color_indexing(
+pub fn store_color_indexing_transform(
     picture: &[u8],
     strip: &mut [u8],
     width: usize,
@@ -288,7 +288,7 @@ pub fn store_color_indexing(
 ) -> Packing
     requires { ⌜ Sized width height ⌝ }
     requires { ⌜ (1 ≤ size) × (size ≤ 256) × (4 * size ≤ length (now entries)) × Holds width height (now picture) × (4 * (height * packedWidth size width) ≤ length (now strip)) ⌝ }
-    ensures { λ r. ⌜ (answer r ≡ storedAnswer (accepted size (pixels (now (entries .entry))) (height * width) (pixels (now (picture .entry))))) × (now (strip .exit) ≡ storedStrip width height size (pixels (now (entries .entry))) (pixels (now (picture .entry))) (now (strip .entry))) ⌝ }
+    ensures { λ r. ⌜ (answer r ≡ storedAnswer size (pixels (now (entries .entry))) (height * width) (pixels (now (picture .entry)))) × (now (strip .exit) ≡ storedStrip width height size (pixels (now (entries .entry))) (pixels (now (picture .entry))) (now (strip .entry))) ⌝ }
 {
     let mut hints = no_hints();
     if accept(picture, height * width, entries, size, &mut hints) {

@@ -2,7 +2,7 @@
 use format::Pixel;
 use pixel::pixel::pixel_at;
 ghost use mathlib.Core.Path.{_≡_};
-ghost use Prim.Native.Nat.{ℕ, _+_, _*_, _/_, _%_, _^_, _<_, _≤_};
+ghost use Prim.Native.Nat.{ℕ, _*_, _^_, _<_, _≤_};
 ghost use lib.ListN.{length};
 ghost use Rattle.format.specs.Pixel.{clear};
 ghost use Rattle.format.specs.Picture.{pixels, Picture};
@@ -40,15 +40,16 @@ pub fn index_range(size: usize) -> usize
     }
 }
 
-pub fn entry_at(table: &[[u8; 4]; 256], i: usize) -> Pixel
-    requires { ⌜ i < 256 ⌝ }
+// Every byte is an index.
+pub fn entry_at(table: &[[u8; 4]; 256], i: u8) -> Pixel
     ensures { λ r. ⌜ r ≡ entryIn (now (table .entry)) i ⌝ }
 {
+    let k = i as usize;
     Pixel {
-        red: table[i][0],
-        green: table[i][1],
-        blue: table[i][2],
-        alpha: table[i][3],
+        red: table[k][0],
+        green: table[k][1],
+        blue: table[k][2],
+        alpha: table[k][3],
     }
 }
 
@@ -82,7 +83,8 @@ fn no_entries() -> [[u8; 4]; 256]
     [[0u8; 4]; 256]
 }
 
-fn no_pairs() -> [[u8; 8]; 256]
+// Where a packed pixel holds one index, no pair is looked up.
+pub fn no_pairs() -> [[u8; 8]; 256]
     ensures { λ r. ⌜ length r ≡ 256 ⌝ }
 {
     [[0u8; 8]; 256]
@@ -103,8 +105,7 @@ pub fn padded(entries: &[u8], size: usize) -> [[u8; 4]; 256]
     table
 }
 
-fn pair_of(table: &[[u8; 4]; 256], a: usize, b: usize) -> [u8; 8]
-    requires { ⌜ (a < 256) × (b < 256) ⌝ }
+fn pair_of(table: &[[u8; 4]; 256], a: u8, b: u8) -> [u8; 8]
     ensures { λ r. ⌜ r ≡ pairBytes (entryIn (now (table .entry)) a) (entryIn (now (table .entry)) b) ⌝ }
 {
     let u = entry_at(table, a);
@@ -129,7 +130,7 @@ pub fn paired(table: [[u8; 4]; 256], range: usize) -> [[u8; 8]; 256]
     let mut pairs = no_pairs();
     let mut k = 0;
     while k < range * range {
-        pairs[k] = pair_of(&table, k % range, k / range);
+        pairs[k] = pair_of(&table, (k % range) as u8, (k / range) as u8);
         k += 1;
     }
     pairs

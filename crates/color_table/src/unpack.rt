@@ -3,6 +3,7 @@
 use crate::table::entry_at;
 use crate::table::first_at;
 use crate::table::index_range;
+use crate::table::no_pairs;
 use crate::table::padded;
 use crate::table::paired;
 use crate::table::per_pixel;
@@ -10,7 +11,7 @@ use crate::table::second_at;
 use format::Pixel;
 use pixel::pixel::put_pixel;
 ghost use mathlib.Core.Path.{_≡_};
-ghost use Prim.Native.Nat.{_+_, _-_, _*_, _/_, _%_, _<_, _≤_};
+ghost use Prim.Native.Nat.{_+_, _-_, _*_, _%_, _<_, _≤_};
 ghost use lib.ListN.{length};
 ghost use Rattle.format.specs.Picture.{Picture, pixels, written};
 ghost use Rattle.format.specs.ColorTable.{perPixel, range, packedWidth, entry, unpacked};
@@ -35,11 +36,11 @@ pub fn packed_width(expanded: Expanded, size: usize) -> Packed
 }
 
 // The byte of packed pixel k.
-fn packed_byte(part: &[u8], k: usize) -> usize
+fn packed_byte(part: &[u8], k: usize) -> u8
     requires { ⌜ 4 * k + 4 ≤ length (now part) ⌝ }
     ensures { λ r. ⌜ (r ≡ pixels (now (part .entry)) k .green) × (r < 256) ⌝ }
 {
-    part[4 * k + 1] as usize
+    part[4 * k + 1]
 }
 
 // Pair k as pixels i and i + 1. Both are read before one is written, so that the eight bytes are moved at once.
@@ -54,11 +55,11 @@ fn put_pair(part: &mut [u8], i: usize, pairs: &[[u8; 8]; 256], k: usize)
 }
 
 // The pixels of the n indices of `byte`, from pixel a on, two at a time.
-fn expand(part: &mut [u8], a: usize, n: usize, range: usize, byte: usize, pairs: &[[u8; 8]; 256])
+fn expand(part: &mut [u8], a: usize, n: usize, range: usize, byte: u8, pairs: &[[u8; 8]; 256])
     requires { ⌜ (n % 2 ≡ 0) × (1 ≤ range) × (range ≤ 16) × (4 * (a + n) ≤ length (now part)) ⌝ }
     ensures { λ _. ⌜ ((e : Picture) → PairsOf range e (now (pairs .entry)) → now (part .exit) ≡ run pixelCells (given (spread range e byte a)) a n (now (part .entry))) ⌝ }
 {
-    let mut b = byte;
+    let mut b = byte as usize;
     let mut k = 0;
     while k < n {
         put_pair(part, a + k, pairs, b % (range * range));
@@ -73,16 +74,16 @@ fn expand_last(
     a: usize,
     count: usize,
     range: usize,
-    byte: usize,
+    byte: u8,
     table: &[[u8; 4]; 256],
 )
     requires { ⌜ (1 ≤ range) × (range ≤ 16) × (4 * (a + count) ≤ length (now part)) ⌝ }
     ensures { λ _. ⌜ ((e : Picture) → TableOf range e (now (table .entry)) → now (part .exit) ≡ run pixelCells (given (spread range e byte a)) a count (now (part .entry))) ⌝ }
 {
-    let mut b = byte;
+    let mut b = byte as usize;
     let mut k = 0;
     while k < count {
-        put_pixel(part, a + k, entry_at(table, b % range));
+        put_pixel(part, a + k, entry_at(table, (b % range) as u8));
         b = b / range;
         k += 1;
     }
@@ -158,63 +159,6 @@ fn unpack_row(
     unpack_pixels(part, first, k, n, range, pairs);
 }
 
-// The same by the table's size: in each arm n is a constant, for which the loops are compiled.
-fn unpack_band(
-    part: &mut [u8],
-    first: usize,
-    width: usize,
-    size: usize,
-    table: &[[u8; 4]; 256],
-    pairs: &[[u8; 8]; 256],
-)
-    requires { ⌜ (size ≤ 16) × (1 ≤ width) × (4 * (first + width) ≤ length (now part)) ⌝ }
-    ensures { λ _. ⌜ ((e : Picture) → TableOf (range (perPixel size)) e (now (table .entry)) → PairsOf (range (perPixel size)) e (now (pairs .entry)) → now (part .exit) ≡ run pixelCells (given (rowOf (range (perPixel size)) (perPixel size) e (pixels (now (part .entry))) first)) first width (now (part .entry))) ⌝ }
-{
-    if size <= 2 {
-        unpack_row(part, first, width, 8, 2, table, pairs);
-    } else if size <= 4 {
-        unpack_row(part, first, width, 4, 4, table, pairs);
-    } else {
-        unpack_row(part, first, width, 2, 16, table, pairs);
-    }
-}
-
-// Row y of the picture. Its part of the buffer goes from its packed pixels to its last column.
-fn unpack_row_at(
-    image: &mut [u8],
-    y: usize,
-    packed: Packed,
-    expanded: Expanded,
-    size: usize,
-    table: &[[u8; 4]; 256],
-    pairs: &[[u8; 8]; 256],
-)
-    requires { ⌜ (size ≤ 16) × (1 ≤ expanded .0) × (packed .0 ≡ packedWidth size (expanded .0)) × (4 * (y * expanded .0 + expanded .0) ≤ length (now image)) ⌝ }
-    ensures { λ _. ⌜ ((e : Picture) → TableOf (range (perPixel size)) (entry size e) (now (table .entry)) → PairsOf (range (perPixel size)) (entry size e) (now (pairs .entry)) → now (image .exit) ≡ run pixelCells (given (unpacked (expanded .0) size e (pixels (now (image .entry))))) (y * expanded .0) (expanded .0) (now (image .entry))) ⌝ }
-{
-    let c = packed.0;
-    let w = expanded.0;
-    let a = 4 * (y * c);
-    let b = 4 * (y * w + w);
-    unpack_band(&mut image[a..b], y * w - y * c, w, size, table, pairs);
-}
-
-// The rows of a picture whose packed pixels hold several indices.
-fn unpack_rows(image: &mut [u8], width: usize, height: usize, size: usize, table: [[u8; 4]; 256])
-    requires { ⌜ Sized width height ⌝ }
-    requires { ⌜ Holds width height (now image) ⌝ }
-    requires { ⌜ size ≤ 16 ⌝ }
-    ensures { λ _. ⌜ ((e : Picture) → TableOf 256 (entry size e) table → now (image .exit) ≡ run pixelCells (given (unpacked width size e (pixels (now (image .entry))))) 0 (height * width) (now (image .entry))) ⌝ }
-{
-    let pairs = paired(table, index_range(size));
-    let packed = packed_width(Expanded(width), size);
-    let mut y = height;
-    while 0 < y {
-        unpack_row_at(image, y - 1, packed, Expanded(width), size, &table, &pairs);
-        y -= 1;
-    }
-}
-
 // The pixel that packed pixel i stands for, where it is an index itself.
 fn look_up(part: &[u8], i: usize, table: &[[u8; 4]; 256]) -> Pixel
     requires { ⌜ 4 * i + 4 ≤ length (now part) ⌝ }
@@ -224,8 +168,8 @@ fn look_up(part: &[u8], i: usize, table: &[[u8; 4]; 256]) -> Pixel
 }
 
 // The entries at p and q as pixels i and i + 1. Both are read before one is written, so that the eight bytes are moved at once.
-fn put_entries(part: &mut [u8], i: usize, p: usize, q: usize, table: &[[u8; 4]; 256])
-    requires { ⌜ (4 * i + 8 ≤ length (now part)) × (p < 256) × (q < 256) ⌝ }
+fn put_entries(part: &mut [u8], i: usize, p: u8, q: u8, table: &[[u8; 4]; 256])
+    requires { ⌜ 4 * i + 8 ≤ length (now part) ⌝ }
     ensures { λ _. ⌜ now (part .exit) ≡ putPixel (putPixel (now (part .entry)) i (entryIn (now (table .entry)) p)) (i + 1) (entryIn (now (table .entry)) q) ⌝ }
 {
     let u = entry_at(table, p);
@@ -269,14 +213,89 @@ fn look_up_rest(part: &mut [u8], from: usize, count: usize, table: &[[u8; 4]; 25
     }
 }
 
-// Packed pixels of one index each stay where they are: front to back, as memory is read fastest.
-fn look_up_pixels(image: &mut [u8], count: usize, table: [[u8; 4]; 256])
-    requires { ⌜ 4 * count ≤ length (now image) ⌝ }
-    ensures { λ _. ⌜ now (image .exit) ≡ run pixelCells (given (looked (entryIn table) (pixels (now (image .entry))))) 0 count (now (image .entry)) ⌝ }
+// A row of packed pixels of one index each. They stay where they are, so that it is done front to back, as memory is read fastest.
+fn look_up_row(part: &mut [u8], width: usize, table: &[[u8; 4]; 256])
+    requires { ⌜ 4 * width ≤ length (now part) ⌝ }
+    ensures { λ _. ⌜ now (part .exit) ≡ run pixelCells (given (looked (entryIn (now (table .entry))) (pixels (now (part .entry))))) 0 width (now (part .entry)) ⌝ }
 {
-    let whole = count / 4 * 4;
-    look_up_fours(image, whole, &table);
-    look_up_rest(image, whole, count, &table);
+    let whole = width / 4 * 4;
+    look_up_fours(part, whole, table);
+    look_up_rest(part, whole, width, table);
+}
+
+// A row by the table's size: in each arm n is a constant, for which the loops are compiled.
+fn unpack_band(
+    part: &mut [u8],
+    first: usize,
+    width: usize,
+    size: usize,
+    table: &[[u8; 4]; 256],
+    pairs: &[[u8; 8]; 256],
+)
+    requires { ⌜ (1 ≤ width) × (4 * (first + width) ≤ length (now part)) × (16 < size → first ≡ 0) ⌝ }
+    ensures { λ _. ⌜ ((e : Picture) → TableOf 256 e (now (table .entry)) → (size ≤ 16 → PairsOf (range (perPixel size)) e (now (pairs .entry))) → now (part .exit) ≡ run pixelCells (given (rowOf (range (perPixel size)) (perPixel size) e (pixels (now (part .entry))) first)) first width (now (part .entry))) ⌝ }
+{
+    if size <= 2 {
+        unpack_row(part, first, width, 8, 2, table, pairs);
+    } else if size <= 4 {
+        unpack_row(part, first, width, 4, 4, table, pairs);
+    } else if size <= 16 {
+        unpack_row(part, first, width, 2, 16, table, pairs);
+    } else {
+        look_up_row(part, width, table);
+    }
+}
+
+// Row y of the picture. Its part of the buffer goes from its packed pixels to its last column.
+pub fn unpack_row_at(
+    image: &mut [u8],
+    y: usize,
+    packed: Packed,
+    expanded: Expanded,
+    size: usize,
+    table: &[[u8; 4]; 256],
+    pairs: &[[u8; 8]; 256],
+)
+    requires { ⌜ (1 ≤ expanded .0) × (packed .0 ≡ packedWidth size (expanded .0)) × (4 * (y * expanded .0 + expanded .0) ≤ length (now image)) ⌝ }
+    ensures { λ _. ⌜ ((e : Picture) → TableOf 256 (entry size e) (now (table .entry)) → (size ≤ 16 → PairsOf (range (perPixel size)) (entry size e) (now (pairs .entry))) → now (image .exit) ≡ run pixelCells (given (unpacked (expanded .0) size e (pixels (now (image .entry))))) (y * expanded .0) (expanded .0) (now (image .entry))) ⌝ }
+{
+    let c = packed.0;
+    let w = expanded.0;
+    let a = 4 * (y * c);
+    let b = 4 * (y * w + w);
+    unpack_band(&mut image[a..b], y * w - y * c, w, size, table, pairs);
+}
+
+// The rows of a picture whose packed pixels hold several indices, from the bottom.
+fn unpack_rows(image: &mut [u8], width: usize, height: usize, size: usize, table: [[u8; 4]; 256])
+    requires { ⌜ Sized width height ⌝ }
+    requires { ⌜ Holds width height (now image) ⌝ }
+    requires { ⌜ size ≤ 16 ⌝ }
+    ensures { λ _. ⌜ ((e : Picture) → TableOf 256 (entry size e) table → now (image .exit) ≡ run pixelCells (given (unpacked width size e (pixels (now (image .entry))))) 0 (height * width) (now (image .entry))) ⌝ }
+{
+    let pairs = paired(table, index_range(size));
+    let packed = packed_width(Expanded(width), size);
+    let mut y = height;
+    while 0 < y {
+        unpack_row_at(image, y - 1, packed, Expanded(width), size, &table, &pairs);
+        y -= 1;
+    }
+}
+
+// The rows of a picture whose packed pixels hold one index each. They stay where they are, so that they are done from the top, as memory is read fastest.
+fn look_up_rows(image: &mut [u8], width: usize, height: usize, size: usize, table: [[u8; 4]; 256])
+    requires { ⌜ Sized width height ⌝ }
+    requires { ⌜ Holds width height (now image) ⌝ }
+    requires { ⌜ 16 < size ⌝ }
+    ensures { λ _. ⌜ ((e : Picture) → TableOf 256 (entry size e) table → now (image .exit) ≡ run pixelCells (given (unpacked width size e (pixels (now (image .entry))))) 0 (height * width) (now (image .entry))) ⌝ }
+{
+    let pairs = no_pairs();
+    let packed = packed_width(Expanded(width), size);
+    let mut y = 0;
+    while y < height {
+        unpack_row_at(image, y, packed, Expanded(width), size, &table, &pairs);
+        y += 1;
+    }
 }
 
 // The whole picture, in one buffer.
@@ -296,6 +315,6 @@ pub fn apply_color_indexing_transform(
     if size <= 16 {
         unpack_rows(image, width, height, size, table);
     } else {
-        look_up_pixels(image, height * width, table);
+        look_up_rows(image, width, height, size, table);
     }
 }

@@ -1,7 +1,7 @@
 -- Laws of the color transform: the two directions undo each other on bytes. Blue's deltas are the same, since rebuilding takes the new red, which is
 -- the unreduced red of storing.
-use mathlib.Core.Path.{_≡_, refl, sym, ap, _∙_}
-use Prim.Native.Nat.{ℕ, _+_, _%_, _<_, _/_}
+use mathlib.Core.Path.{_≡_, ap, _∙_}
+use Prim.Native.Nat.{ℕ, _%_, _<_, _/_}
 use native.Mathlib.Omega.{arith}
 use Rattle.format.specs.declared.Pixel.{Pixel}
 use Rattle.format.specs.Byte.{add, sub, delta}

@@ -1,13 +1,13 @@
 -- Laws of the color table: what was packed is found again, digit by digit, and the entry at a pixel's index is that pixel.
 use mathlib.Core.Bool.{Bool, true, false}
 use mathlib.Core.Path.{_≡_, refl, sym, ap, _∙_, subst}
-use Prim.Native.Nat.{ℕ, zero, suc, _+_, _-_, _*_, _/_, _%_, _^_, _<_, _≤_}
-use native.Mathlib.Nat.{not-suc-le-zero, le-of-suc-le-suc, zero-add, add-zero, pow-zero, pow-suc, pow-succ', div-one, mul-comm, mod-eq-of-lt, div-eq-of-lt, add-mul-mod-self-left, add-mul-div-left, div-div-eq-div-mul, zero-lt-suc, mod-lt, div-add-mod', div-lt-iff-lt-mul, le-div-iff-mul-le, suc-mul, div-mul-le-self, one-mul, lt-of-lt-of-le}
+use Prim.Native.Nat.{ℕ, zero, suc, _+_, _*_, _/_, _%_, _^_, _<_, _≤_}
+use native.Mathlib.Nat.{not-suc-le-zero, le-of-suc-le-suc, zero-add, pow-zero, pow-suc, pow-succ', div-one, mul-comm, mod-eq-of-lt, div-eq-of-lt, add-mul-mod-self-left, add-mul-div-left, div-div-eq-div-mul, zero-lt-suc, mod-lt, div-add-mod', div-lt-iff-lt-mul, le-div-iff-mul-le, suc-mul, div-mul-le-self, one-mul, lt-of-lt-of-le}
 use native.Mathlib.Omega.{arith}
-use borrow.Author.Tests.{ltb-true, leb-true, leb-false, lt-ltb}
+use borrow.Author.Tests.{ltb-true, leb-true, lt-ltb}
 use lib.Arith.{digits-lt, digits-div, digits-mod}
 use lib.Dec.{ltb, leb, lit<}
-use Rattle.format.specs.Choice.{if_then_else_, every}
+use Rattle.format.specs.Choice.{if_then_else_}
 use Rattle.format.specs.declared.Pixel.{Pixel}
 use Rattle.format.specs.Pixel.{equal}
 use Rattle.format.specs.Picture.{Picture, ceiling}
@@ -16,15 +16,6 @@ use Rattle.format.proofs.Choice.{every-at}
 use Rattle.format.proofs.Pixels.{equal-true, equal-refl, Bytes}
 
 -- ---- the lowest index
-
-pub lowest-from : (e : Picture) (v : Pixel) (k i : ℕ) → i ≤ lowest e v k i
-unfolding lowest
-lowest-from e v zero i = omega arith
-lowest-from e v (suc k) i = go (equal (e i) v) (lowest-from e v k (suc i))
-  where
-    go : (b : Bool) → suc i ≤ lowest e v k (suc i) → i ≤ (if b then i else lowest e v k (suc i))
-    go true ih = omega arith
-    go false ih = omega arith
 
 pub lowest-hit : (e : Picture) (v : Pixel) (k i : ℕ) → lowest e v k i < i + k → e (lowest e v k i) ≡ v
 unfolding lowest
@@ -88,15 +79,6 @@ perPixel-pos size = go (leb size 2) (leb size 4) (leb size 16)
 -- ---- digits
 
 module _ (u : ℕ) (pos : 0 < u) where
-  pub digits-below : (n : ℕ) (g : ℕ → ℕ) → ((k : ℕ) → k < n → g k < u) → digits u n g < u ^ n
-  unfolding digits
-  digits-below zero g h = rw (pow-zero u) (zero-lt-suc 0)
-  digits-below (suc n) g h =
-      let P = digits u n (λ k. g (suc k)) in
-      let e : P * u + g 0 ≡ g 0 + u * P = omega (arith, mul-comm P u) in
-      subst (λ (z : ℕ). z < u ^ suc n) e
-      (subst (λ (z : ℕ). P * u + g 0 < z) (sym (pow-suc u n)) (digits-lt (digits-below n (λ k. g (suc k)) (λ k l. h (suc k) (omega arith))) (h 0 (omega arith))))
-
   pub digit : (n : ℕ) (g : ℕ → ℕ) (j : ℕ) → ((k : ℕ) → k < n → g k < u) → j < n → digits u n g / u ^ j % u ≡ g j
   unfolding digits
   digit zero g j h l = absurd (not-suc-le-zero l)
@@ -138,20 +120,6 @@ module _ (w h size : ℕ) (e f : Picture) (pos : 0 < w) (least : size ≤ 256) (
 
   pub entry-at-index : (q : ℕ) → q < h * w → entry size e (indexOf size e (f q)) ≡ f q
   entry-at-index q l = rw (lt-ltb (indexOf size e (f q)) size (index-below q l)) (lowest-hit e (f q) size 0 (rw (zero-add size) (index-below q l)))
-
-  pub packed-bytes : (r : ℕ) → r < h * packedWidth size w → Bytes (packed w size e f r)
-  unfolding packed
-  packed-bytes r l =
-      let y = r / packedWidth size w in
-      let j = r % packedWidth size w in
-      let below : y < h = div-lt-iff-lt-mul (ceiling-pos w n pos (perPixel-pos size)) .1 l in
-      record {
-        red = lit< tt;
-        green = subst (λ (z : ℕ). digits (range n) n (λ k. indexAt w size e f y (j * n + k)) < z) (places size least .whole)
-            (digits-below (range n) (places size least .some) n (λ k. indexAt w size e f y (j * n + k)) (λ k m. digit-small y below (j * n + k)));
-        blue = lit< tt;
-        alpha = lit< tt;
-      }
 
   pub unpacked-packed : (q : ℕ) → q < h * w → unpacked w size e (packed w size e f) q ≡ f q
   unfolding unpacked packed

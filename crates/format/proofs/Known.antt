@@ -1,18 +1,16 @@
 -- The worked pictures of document 01 that are marked with a star, in one table: what the definitions compute, and what the paper says.
-use mathlib.Core.Bool.{Bool, true, false}
 use mathlib.Core.List.{List, [], _∷_, map}
 use mathlib.Core.Path.{_≡_, refl}
 use Prim.Native.Nat.{ℕ}
 use lib.ListN.{getD}
 use Rattle.format.specs.declared.Pixel.{Pixel}
-use Rattle.format.specs.Choice.{if_then_else_}
 use Rattle.format.specs.Byte.{delta}
 use Rattle.format.specs.Pixel.{pixel, clear, each, each3}
 use Rattle.format.specs.Picture.{Picture, written, inOrder, block, writtenBytes}
 use Rattle.format.specs.Predictor.{predict, select, predicted, gained, fromResiduals}
 use Rattle.format.specs.Color.{inverseColor}
 use Rattle.format.specs.SubtractGreen.{addGreen}
-use Rattle.format.specs.ColorTable.{perPixel, unpacked, lowest, accepted}
+use Rattle.format.specs.ColorTable.{perPixel, unpacked, lowest, storedAnswer}
 use Rattle.format.specs.ColorMap.{adjusted, adjustColorMap}
 
 pub record Line : Type 0 where
@@ -41,9 +39,6 @@ blocksOf m i = pixel 0 m 0 255
 -- a table of three entries, none of them clear
 abbrev three : Picture
 three = picture (pixel 1 0 0 255 ∷ pixel 2 0 0 255 ∷ pixel 3 0 0 255 ∷ [])
-
-abbrev number : Bool → ℕ
-number b = if b then 1 else 0
 
 -- 2 by 2, red residuals 5, 1, 2, 0
 abbrev reds : Picture
@@ -78,11 +73,11 @@ worked =
     ∷ (one (addGreen (pixel 250 10 255 7)) is 4 ∷ 10 ∷ 9 ∷ 7 ∷ [])
     -- entries 0, 1, 2, clear, 2; storing this back is refused, since no entry is clear
     ∷ (bytes 5 spread is 1 ∷ 0 ∷ 0 ∷ 255 ∷ 2 ∷ 0 ∷ 0 ∷ 255 ∷ 3 ∷ 0 ∷ 0 ∷ 255 ∷ 0 ∷ 0 ∷ 0 ∷ 0 ∷ 3 ∷ 0 ∷ 0 ∷ 255 ∷ [])
-    ∷ (number (accepted 3 three 5 spread) ∷ [] is 0 ∷ [])
+    ∷ (storedAnswer 3 three 5 spread ∷ [] is 21 ∷ [])
     -- the color map
     ∷ (adjustColorMap (250 ∷ 0 ∷ 0 ∷ 255 ∷ 10 ∷ 1 ∷ 0 ∷ 0 ∷ []) is 250 ∷ 0 ∷ 0 ∷ 255 ∷ 4 ∷ 1 ∷ 0 ∷ 255 ∷ [])
     ∷ []
 
 pub known : map (λ (l : Line). l .computed) worked ≡ map (λ (l : Line). l .expected) worked
-unfolding each each3 written inOrder gained predicted block predict select delta inverseColor unpacked perPixel lowest adjustColorMap adjusted writtenBytes
+unfolding each each3 written inOrder gained predicted block predict select delta inverseColor unpacked perPixel lowest storedAnswer adjustColorMap adjusted writtenBytes
 known = refl

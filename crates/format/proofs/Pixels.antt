@@ -1,14 +1,14 @@
 -- Laws of pixels whose channels are bytes.
 use mathlib.Core.Bool.{Bool, true, false, _&&_}
-use mathlib.Core.Path.{_≡_, refl, sym}
-use Prim.Native.Nat.{ℕ, _<_}
+use mathlib.Core.Path.{_≡_, refl}
+use Prim.Native.Nat.{_<_}
 use borrow.Author.Tests.{eqb-true, eq-eqb}
 use lib.Dec.{eqb}
 use Rattle.format.specs.Choice.{if_then_else_}
 use Rattle.format.specs.declared.Pixel.{Pixel}
 use Rattle.format.specs.Byte.{add, sub}
 use Rattle.format.specs.Pixel.{pixel, each, equal}
-use Rattle.format.proofs.Choice.{and-left, and-right, and-both}
+use Rattle.format.proofs.Choice.{and-left, and-right}
 use Rattle.format.proofs.Byte.{add-sub, sub-add, add-byte, sub-byte}
 
 pub record Bytes (v : Pixel) : Type 0 where
@@ -16,24 +16,6 @@ pub record Bytes (v : Pixel) : Type 0 where
   pub green : v .green < 256
   pub blue : v .blue < 256
   pub alpha : v .alpha < 256
-
-pub add-bytes : (u v : Pixel) → Bytes (each add u v)
-unfolding each
-add-bytes u v = record {
-  red = add-byte (u .red) (v .red);
-  green = add-byte (u .green) (v .green);
-  blue = add-byte (u .blue) (v .blue);
-  alpha = add-byte (u .alpha) (v .alpha);
-}
-
-pub sub-bytes : (u v : Pixel) → Bytes (each sub u v)
-unfolding each
-sub-bytes u v = record {
-  red = sub-byte (u .red) (v .red);
-  green = sub-byte (u .green) (v .green);
-  blue = sub-byte (u .blue) (v .blue);
-  alpha = sub-byte (u .alpha) (v .alpha);
-}
 
 pub each-add-sub : (u v : Pixel) → Bytes u → each add (each sub u v) v ≡ u
 unfolding each

@@ -1,7 +1,7 @@
 -- Laws of the predictor transform: a prediction reads earlier pixels alone, so storing and rebuilding undo each other.
 use mathlib.Core.Path.{_≡_, refl, sym, ap, _∙_}
 use Prim.Native.Nat.{ℕ, zero, suc, _+_, _-_, _*_, _/_, _%_, _<_, _≤_}
-use native.Mathlib.Nat.{div-add-mod', mod-lt, not-suc-le-zero, suc-mul, le-refl}
+use native.Mathlib.Nat.{div-add-mod', mod-lt, not-suc-le-zero, suc-mul, le-refl, mod-one, div-one}
 use native.Mathlib.Decide.{ℕ-discrete}
 use native.Mathlib.Omega.{arith}
 use borrow.Author.Tests.{eqb-false}
@@ -9,9 +9,9 @@ use lib.Dec.{eqb, ltb}
 use Rattle.format.specs.Choice.{if_then_else_}
 use Rattle.format.specs.declared.Pixel.{Pixel}
 use Rattle.format.specs.Byte.{add, sub, distance}
-use Rattle.format.specs.Pixel.{each}
-use Rattle.format.specs.Picture.{Picture, inOrder, paint}
-use Rattle.format.specs.Predictor.{select, distanceTo, between, predict, predicted, residuals, gained, fromResiduals}
+use Rattle.format.specs.Pixel.{black, each}
+use Rattle.format.specs.Picture.{Picture, inOrder}
+use Rattle.format.specs.Predictor.{select, distanceTo, between, topRight, predicted, residuals, gained, fromResiduals}
 use Rattle.format.proofs.Choice.{if-same}
 use Rattle.format.proofs.Pixels.{Bytes, each-add-sub, each-sub-add}
 use Rattle.format.proofs.Picture.{paint-at, paint-other, inOrder-ahead, inOrder-at, inOrder-kept}
@@ -46,6 +46,18 @@ to-top l t tl =
 pub select-between : (l t tl : Pixel) → select l t tl ≡ (if ltb (between t tl) (between l tl) then l else t)
 unfolding select
 select-between l t tl = rw (to-left l t tl, to-top l t tl)
+
+-- ---- widths 1 and 2
+
+pub top-right-width-2 : (f : Picture) (y : ℕ) → topRight 2 f 1 y ≡ f (y * 2)
+top-right-width-2 f y = refl
+
+-- whatever the modes are: the first pixel as mode 0, the others as T
+pub predicted-width-1 : (bits : ℕ) (d f : Picture) (q : ℕ) → predicted 1 bits d f (q % 1) (q / 1) ≡ (if eqb q 0 then black else f (q - 1))
+unfolding predicted
+predicted-width-1 bits d f q =
+    let o : (q - 1) * 1 + 0 ≡ q - 1 = omega arith in
+    rw (mod-one q, div-one q, o)
 
 -- ---- earlier pixels
 

@@ -1,18 +1,21 @@
 -- Storing and rebuilding undo each other, transform by transform: for pictures f of h rows of w pixels whose channels are bytes.
 use mathlib.Core.Bool.{true}
+use mathlib.Core.List.{List}
 use mathlib.Core.Path.{_≡_}
 use Prim.Native.Nat.{ℕ, _*_, _<_, _≤_}
 use native.Mathlib.Nat.{le-refl}
-use Rattle.format.specs.Picture.{Picture}
+use Rattle.format.specs.Picture.{Picture, byteAt}
 use Rattle.format.specs.Predictor.{residuals, fromResiduals}
 use Rattle.format.specs.Color.{colorStored, colorRebuilt}
 use Rattle.format.specs.SubtractGreen.{greenStored, greenRebuilt}
 use Rattle.format.specs.ColorTable.{packed, unpacked, accepted}
+use Rattle.format.specs.ColorMap.{adjustColorMap, unadjustColorMap}
 use Rattle.format.proofs.Pixels.{Bytes}
 use Rattle.format.proofs.Predictor.{rebuilt-residuals, residuals-rebuilt}
 use Rattle.format.proofs.Color.{color-rebuilt-stored, color-stored-rebuilt}
 use Rattle.format.proofs.SubtractGreen.{green-rebuilt-stored, green-stored-rebuilt}
 use Rattle.format.proofs.ColorTable.{unpacked-packed}
+use Rattle.format.proofs.ColorMap.{unadjust-adjust, adjust-unadjust}
 
 module _ (w h : ℕ) (pos : 0 < w) (f : Picture) (bytes : (q : ℕ) → q < h * w → Bytes (f q)) where
   -- rebuilding what was stored gives the picture
@@ -37,3 +40,11 @@ module _ (w h : ℕ) (pos : 0 < w) (f : Picture) (bytes : (q : ℕ) → q < h * 
 
   pub green-rebuilt : (q : ℕ) → q < h * w → greenStored (greenRebuilt f) q ≡ f q
   green-rebuilt q l = green-stored-rebuilt f q (bytes q l)
+
+-- a color map adjusted and unadjusted, by the two calls' definitions, on every list of bytes
+module _ (xs : List ℕ) (small : (i : ℕ) → byteAt xs i < 256) where
+  pub map-adjusted : unadjustColorMap (adjustColorMap xs) ≡ xs
+  map-adjusted = unadjust-adjust xs small
+
+  pub map-unadjusted : adjustColorMap (unadjustColorMap xs) ≡ xs
+  map-unadjusted = adjust-unadjust xs small

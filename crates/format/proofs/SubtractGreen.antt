@@ -4,7 +4,7 @@ use Prim.Native.Nat.{ℕ}
 use Rattle.format.specs.declared.Pixel.{Pixel}
 use Rattle.format.specs.Pixel.{pixel}
 use Rattle.format.specs.Picture.{Picture}
-use Rattle.format.specs.SubtractGreen.{subtractGreen, addGreen, greenStored, greenRebuilt}
+use Rattle.format.specs.SubtractGreen.{greenStored, greenRebuilt}
 use Rattle.format.proofs.Byte.{add-sub, sub-add}
 use Rattle.format.proofs.Pixels.{Bytes}
 

@@ -1,5 +1,5 @@
 -- Pictures and strips, and the bytes of a buffer whose front holds one.
-use mathlib.Core.List.{List, [], _∷_}
+use mathlib.Core.List.{List, _∷_}
 use Prim.Native.Nat.{ℕ, zero, suc, _+_, _-_, _*_, _/_, _^_}
 use lib.Dec.{eqb}
 use lib.ListN.{getD, drop}

@@ -47,7 +47,7 @@ predictions l t tr tl =
 unfoldable pub predict : ℕ → Pixel → Pixel → Pixel → Pixel → Pixel
 predict mode l t tr tl = getD (predictions l t tr tl) mode clear
 
--- the neighbours of column x of row y in a picture of w columns
+-- the neighbors of column x of row y in a picture of w columns
 module _ (w : ℕ) (f : Picture) (x y : ℕ) where
   abbrev pub left : Pixel
   left = f (y * w + (x - 1))
@@ -58,7 +58,7 @@ module _ (w : ℕ) (f : Picture) (x y : ℕ) where
   abbrev pub topLeft : Pixel
   topLeft = f ((y - 1) * w + (x - 1))
 
-  -- TR of the last column is column 0 of the same row
+  -- TR of the last column is column 0 of the same row. At width 2 that is L. At width 1 every pixel is on a border, and no mode is used
   abbrev pub topRight : Pixel
   topRight = if eqb (x + 1) w then f (y * w) else f ((y - 1) * w + (x + 1))
 

@@ -8,9 +8,9 @@ use lib.ListN.{length, drop, length-drop}
 use lib.Seq.{ext-getD}
 use Rattle.format.specs.declared.Pixel.{Pixel}
 use Rattle.format.specs.Picture.{Picture, byteAt, pixels, written, writtenBytes, inOrder}
-use Rattle.format.proofs.Picture.{written-same, writtenBytes-same, writtenBytes-last, length-writtenBytes, byteAt-writtenBytes, inOrder-kept, paint-at}
+use Rattle.format.proofs.Picture.{written-same, length-writtenBytes, byteAt-writtenBytes, inOrder-kept, paint-at}
 use Rattle.pixel.specs.Cells.{Cells, byteCells, pixelCells, putPixel, Rule, run}
-use Rattle.pixel.proofs.Cells.{Lawful, byte-lawful, pixel-lawful, length-run, get-run}
+use Rattle.pixel.proofs.Cells.{Lawful, byte-lawful, pixel-lawful, get-run}
 
 -- how the front of a buffer is written, one cell more at a time
 pub record Front {P : Type 0} (c : Cells P) (front : ℕ → (ℕ → P) → List ℕ → List ℕ) : Type 0 where
@@ -30,14 +30,6 @@ module _ {P : Type 0} (c : Cells P) (ok : Lawful c) (front : ℕ → (ℕ → P)
       let v : h (c .get (run c h 0 n xs)) n ≡ g n = ap (λ (f : ℕ → P). h f n) (get-run c ok h xs n less) ∙ sym (paint-at (inOrder h n (c .get xs)) n (h (inOrder h n (c .get xs)) n)) in
       let s : c .put (run c h 0 n xs) (0 + n) (h (c .get (run c h 0 n xs)) (0 + n)) ≡ c .put (front n g xs) n (g n) = cc in
       s ∙ fr .last n g xs l
-
-pub byte-front : Front byteCells writtenBytes
-unfolding writtenBytes
-byte-front = record {
-  none = λ f xs. refl;
-  same = λ n f g xs e. writtenBytes-same n f g xs e;
-  last = λ n f xs l. writtenBytes-last n f xs (omega arith);
-}
 
 -- bytes that are known one by one
 pub bytes-are : (xs ys : List ℕ) (f : ℕ → ℕ) → length ys ≡ length xs → ((i : ℕ) → i < length xs → byteAt ys i ≡ f i) → ys ≡ writtenBytes (length xs) f xs
@@ -80,9 +72,6 @@ pixel-front = record {
 }
 
 -- ---- for code
-
-pub bytes-run : (h : Rule ℕ) (xs : List ℕ) (n : ℕ) → n ≤ length xs → run byteCells h 0 n xs ≡ writtenBytes n (inOrder h n (byteAt xs)) xs
-bytes-run h xs n l = run-front byteCells byte-lawful writtenBytes byte-front h xs n (omega arith)
 
 pub pixels-run : (h : Rule Pixel) (xs : List ℕ) (n : ℕ) → 4 * n ≤ length xs → run pixelCells h 0 n xs ≡ written n (inOrder h n (pixels xs)) xs
 pixels-run h xs n l = run-front pixelCells pixel-lawful written pixel-front h xs n l

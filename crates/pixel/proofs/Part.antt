@@ -1,10 +1,10 @@
 -- A part of a buffer that is lent and comes back: pixels replaced in order in the part are pixels replaced in order in the whole.
 use mathlib.Core.List.{List, [], _∷_, _++_}
-use mathlib.Core.Path.{_≡_, refl, sym, ap, _∙_}
+use mathlib.Core.Path.{_≡_, sym, ap, _∙_}
 use Prim.Native.Nat.{ℕ, zero, suc, _+_, _-_, _*_, _<_, _≤_}
 use native.Mathlib.Nat.{zero-add, suc-add, add-assoc}
 use native.Mathlib.Omega.{arith}
-use lib.ListN.{length, getD, set, take, drop, length-set, length-drop, take-append-drop, List·getD-append}
+use lib.ListN.{length, set, take, drop, length-set, length-drop, take-append-drop, List·getD-append}
 use lib.Seq.{getD-append-add, set-append-left, length-take-le, getD-take, getD-drop}
 use Rattle.format.specs.declared.Pixel.{Pixel}
 use Rattle.format.specs.Picture.{byteAt, pixels}

@@ -29,7 +29,7 @@ pub record BlockedRow (w bits : ℕ) (blocks : List ℕ) : Type 0 where
   pub most : bits ≤ 9
   pub there : 4 * ceiling w (2 ^ bits) ≤ length blocks
 
--- the column after the last of the block that holds column x
+-- e is after column x, and neither past the row's end nor past that of the block that holds x
 pub record BlockEnd (w bits x e : ℕ) : Type 0 where
   pub after : x < e
   pub inside : e ≤ w

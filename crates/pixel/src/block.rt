@@ -1,6 +1,6 @@
 // Blocks of a row: 2^bits columns share a data pixel.
 ghost use mathlib.Core.Path.{_≡_};
-ghost use Prim.Native.Nat.{_+_, _*_, _/_, _^_, _<_, _≤_};
+ghost use Prim.Native.Nat.{_^_, _<_, _≤_};
 ghost use Rattle.format.specs.Picture.{ceiling};
 ghost use Rattle.pixel.specs.Sizes.{BlockEnd};
 

@@ -1,7 +1,7 @@
 // Arithmetic on single bytes. Clamping is by saturating sums and differences of bytes, which compile to one instruction each and to no branch.
 ghost use mathlib.Core.Path.{_≡_};
 ghost use Prim.Native.Nat.{_+_, _-_, _<_, _≤_, min};
-ghost use Rattle.format.specs.Byte.{add, sub, avg, distance as distanceOf, clampFull, clampHalf};
+ghost use Rattle.format.specs.Byte.{avg, distance as distanceOf, clampFull, clampHalf};
 
 fn wide(x: u8) -> u16
     ensures { λ r. ⌜ r ≡ x ⌝ }

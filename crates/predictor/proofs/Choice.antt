@@ -1,20 +1,19 @@
--- Mode 11: the choice between two neighbours, carried from pixel to pixel.
+-- Mode 11: the choice between two neighbors, carried from pixel to pixel.
 use mathlib.Core.Bool.{Bool, true, false}
 use mathlib.Core.List.{List}
-use mathlib.Core.Path.{_≡_, refl, sym, ap, _∙_}
+use mathlib.Core.Path.{_≡_, refl, ap, _∙_}
 use Prim.Native.Nat.{ℕ, _+_, _-_, _*_, _≤_}
 use native.Mathlib.Omega.{arith}
 use lib.Dec.{ltb}
 use lib.ListN.{length}
 use Rattle.format.specs.Choice.{if_then_else_}
 use Rattle.format.specs.declared.Pixel.{Pixel}
-use Rattle.format.specs.Byte.{add}
 use Rattle.format.specs.Picture.{pixels}
 use Rattle.format.specs.Predictor.{predict, between}
 use Rattle.format.proofs.Predictor.{select-between}
 use Rattle.pixel.specs.Cells.{putPixel}
 use Rattle.pixel.proofs.Cells.{pixel-same, pixel-other}
-use Rattle.predictor.specs.Row.{around, gains, leftNearer}
+use Rattle.predictor.specs.Row.{around, leftNearer}
 
 -- a function of the choice
 pub pick-after : {A B : Type 0} (f : A → B) (n : Bool) (x y : A) → (if n then f x else f y) ≡ f (if n then x else y)

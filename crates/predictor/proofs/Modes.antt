@@ -6,7 +6,7 @@ use native.Mathlib.Omega.{arith}
 use lib.ListN.{List·getD-eq-default}
 use Rattle.format.specs.declared.Pixel.{Pixel}
 use Rattle.format.specs.Byte.{add}
-use Rattle.format.specs.Pixel.{pixel, clear, each}
+use Rattle.format.specs.Pixel.{clear, each}
 use Rattle.format.specs.Picture.{byteAt, pixels}
 use Rattle.format.specs.Predictor.{predict, predictions}
 use Rattle.pixel.specs.Cells.{pixelCells, putPixel, run}

@@ -4,18 +4,16 @@ use mathlib.Core.Path.{_≡_, refl, sym, ap, _∙_}
 use Prim.Native.Nat.{ℕ, zero, suc, _+_, _-_, _*_, _%_, _<_, _≤_}
 use native.Mathlib.Nat.{add-zero}
 use native.Mathlib.Omega.{arith}
-use lib.ListN.{length, List·getD-eq-default}
+use lib.ListN.{List·getD-eq-default}
 use Rattle.format.specs.declared.Pixel.{Pixel}
 use Rattle.format.specs.Byte.{sub, avg, clampFull, clampHalf}
 use Rattle.format.specs.Pixel.{pixel, each, each3}
 use Rattle.format.specs.Picture.{byteAt, pixels}
 use Rattle.format.specs.Predictor.{predict}
-use Rattle.pixel.specs.Cells.{byteCells, pixelCells, Rule, run, given}
-use Rattle.pixel.proofs.Cells.{pixel-lawful, run-same}
+use Rattle.pixel.specs.Cells.{byteCells, pixelCells, run, given}
 use Rattle.pixel.proofs.Channels.{Channels, pixels-bytes}
 use Rattle.predictor.specs.Row.{around, residual}
 use Rattle.predictor.specs.Bytewise.{predictByte, byteResidual}
-use Rattle.predictor.proofs.Modes.{mode-over-13}
 
 -- what wrapping subtraction gives
 pub less-back : (r a b p : ℕ) → (r + b) % 256 ≡ a → b ≡ p → r < 256 → r ≡ sub a p

@@ -1,18 +1,16 @@
 -- A picture's rows: the rule of a row in its part, and of row 0, is the rule of the picture.
-use mathlib.Core.Bool.{Bool, true, false}
 use mathlib.Core.List.{List}
 use mathlib.Core.Path.{_≡_, refl, sym, ap, _∙_}
-use Prim.Native.Nat.{ℕ, zero, suc, _+_, _-_, _*_, _/_, _%_, _^_, _≤_, _<_}
-use native.Mathlib.Nat.{add-mul, one-mul, mul-le-mul-right, div-lt-iff-lt-mul, div-eq-of-lt, mod-eq-of-lt, div-add-mod'}
+use Prim.Native.Nat.{ℕ, _+_, _-_, _*_, _/_, _%_, _^_, _≤_, _<_}
+use native.Mathlib.Nat.{add-mul, one-mul, mul-le-mul-right, div-eq-of-lt, mod-eq-of-lt}
 use native.Mathlib.Decide.{ℕ-discrete}
 use native.Mathlib.Omega.{arith}
 use borrow.Author.Tests.{eq-eqb, ne-eqb}
 use lib.Arith.{digits-div, digits-mod}
-use lib.ListN.{length, take, drop}
-use lib.Pow.{pow-pos}
+use lib.ListN.{take, drop}
 use Rattle.format.specs.declared.Pixel.{Pixel}
 use Rattle.format.specs.Byte.{add}
-use Rattle.format.specs.Pixel.{each, black}
+use Rattle.format.specs.Pixel.{each}
 use Rattle.format.specs.Picture.{Picture, pixels, block, ceiling, written, inOrder}
 use Rattle.format.specs.Predictor.{gained, predict, predicted, mode, left, top, topRight, topLeft}
 use Rattle.format.proofs.Predictor.{row-above}

@@ -1,15 +1,15 @@
 -- Rows stored: a row's residuals in its part of the strip are the picture's.
 use mathlib.Core.List.{List}
 use mathlib.Core.Path.{_≡_, refl, sym, ap, _∙_}
-use Prim.Native.Nat.{ℕ, zero, suc, _+_, _-_, _*_, _/_, _%_, _^_, _≤_, _<_}
-use native.Mathlib.Nat.{add-mul, one-mul, add-zero, zero-add}
+use Prim.Native.Nat.{ℕ, _+_, _-_, _*_, _/_, _^_, _≤_, _<_}
+use native.Mathlib.Nat.{add-mul, one-mul, add-zero}
 use native.Mathlib.Omega.{arith}
-use lib.ListN.{length, take, drop}
+use lib.ListN.{take, drop}
 use Rattle.format.specs.declared.Pixel.{Pixel}
 use Rattle.format.specs.Byte.{sub}
 use Rattle.format.specs.Pixel.{each, black}
 use Rattle.format.specs.Picture.{Picture, pixels, ceiling, written}
-use Rattle.format.specs.Predictor.{predict, predicted, residuals}
+use Rattle.format.specs.Predictor.{predict, residuals}
 use Rattle.format.proofs.Predictor.{row-above}
 use Rattle.pixel.specs.Cells.{pixelCells, putPixel, run, given}
 use Rattle.pixel.specs.Sizes.{Blocked, Holds}
@@ -17,7 +17,7 @@ use Rattle.pixel.proofs.Blocks.{row-there, data-there}
 use Rattle.pixel.proofs.Cells.{run-next}
 use Rattle.pixel.proofs.Given.{given-same, given-written}
 use Rattle.pixel.proofs.Part.{back, part-run, pixel-part}
-use Rattle.predictor.specs.Row.{around, residual, rowPredicted, leftResidual}
+use Rattle.predictor.specs.Row.{residual, rowPredicted, leftResidual}
 use Rattle.predictor.proofs.Rows.{pair-there, predicted-first, predicted-left, row-predicted}
 
 -- ---- row 0

@@ -1,4 +1,4 @@
--- A turn of a loop that replaces a pixel and carries it as the next one's left neighbour.
+-- A turn of a loop that replaces a pixel and carries it as the next one's left neighbor.
 use mathlib.Core.List.{List}
 use mathlib.Core.Path.{_≡_, sym, ap, _∙_}
 use Prim.Native.Nat.{ℕ, _+_, _-_, _*_, _≤_}
@@ -9,7 +9,7 @@ use Rattle.format.specs.Picture.{pixels}
 use Rattle.pixel.specs.Cells.{pixelCells, putPixel, Rule, run}
 use Rattle.pixel.proofs.Cells.{pixel-same, run-more}
 
--- the pixel that was put is the left neighbour of the next
+-- the pixel that was put is the left neighbor of the next
 pub left-next : (xs ys : List ℕ) (i : ℕ) (v : Pixel) → ys ≡ putPixel xs i v → 4 * i + 4 ≤ length xs → v ≡ pixels ys (i + 1 - 1)
 left-next xs ys i v e h =
     let k : i + 1 - 1 ≡ i = omega arith in

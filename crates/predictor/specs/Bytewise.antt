@@ -1,5 +1,5 @@
 -- Predictions byte by byte: what loops over bytes compute.
-use mathlib.Core.List.{List, [], _∷_}
+use mathlib.Core.List.{[], _∷_}
 use Prim.Native.Nat.{ℕ, _+_, _-_}
 use lib.ListN.{getD}
 use Rattle.format.specs.Byte.{add, sub, avg, clampFull, clampHalf}

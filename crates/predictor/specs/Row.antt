@@ -2,7 +2,7 @@
 use mathlib.Core.Bool.{Bool}
 use mathlib.Core.List.{List}
 use mathlib.Core.Path.{_≡_}
-use Prim.Native.Nat.{ℕ, _+_, _-_, _*_, _/_, _^_, _≤_, _<_}
+use Prim.Native.Nat.{ℕ, _+_, _-_, _*_, _/_, _^_, _≤_}
 use lib.ListN.{length}
 use lib.Dec.{eqb, ltb}
 use Rattle.format.specs.declared.Pixel.{Pixel}
@@ -13,7 +13,7 @@ use Rattle.format.specs.Picture.{Picture}
 use Rattle.format.specs.Predictor.{predict, between}
 use Rattle.pixel.specs.Cells.{Rule}
 
--- the prediction of pixel i from its neighbours by a mode; TR of the last column is the row's first pixel, since the row follows the row above
+-- the prediction of pixel i from its neighbors by a mode; TR of the last column is the row's first pixel, since the row follows the row above
 abbrev pub around : ℕ → ℕ → Rule Pixel
 around m w p i = predict m (p (i - 1)) (p (i - w)) (p (i - w + 1)) (p (i - w - 1))
 
@@ -43,7 +43,7 @@ pub record Inside (w i : ℕ) (rows : List ℕ) : Type 0 where
   pub off : w + 1 ≤ i
   pub within : 4 * i + 4 ≤ length rows
 
--- pixels from a up to b are
+-- so are the pixels from a up to b
 pub record Segment (w a b : ℕ) (rows : List ℕ) : Type 0 where
   pub wide : 2 ≤ w
   pub off : w + 1 ≤ a

@@ -1,5 +1,5 @@
 // Segments of a row stored: `rows` holds the row above and then the row, `w` pixels each; the columns from `from` up to `to` of `out` become the row's
-// residuals. What is read is never written, so loops over bytes are vectorised in every mode that goes channel by channel.
+// residuals. What is read is never written, so loops over bytes are vectorized in every mode that goes channel by channel.
 use format::Pixel;
 use pixel::byte::average2;
 use pixel::byte::average4;
@@ -53,7 +53,7 @@ fn byte_residual(rows: &[u8], mode: u8, stride: usize, i: usize) -> u8
     wrapping_sub_u8(rows[stride + i], predict_byte(mode, l, t, tr, tl))
 }
 
-// Bytes from `from` up to `to`. Each caller passes a mode of its own as a constant, so that the compiler makes a loop for that mode.
+// Bytes from `from` up to `to`. Each caller but the last arm of `store_segment` passes its mode as a constant, so that the compiler makes a loop for that mode.
 fn store_bytes(rows: &[u8], out: &mut [u8], mode: u8, stride: usize, from: usize, to: usize)
     requires { ⌜ (4 ≤ from) × (from ≤ to) × (to ≤ stride) × (length (now rows) ≡ stride + stride) × (to ≤ length (now out)) ⌝ }
     ensures { λ _. ⌜ now (out .exit) ≡ run byteCells (given (byteResidualOf mode stride (byteAt (now (rows .entry))))) from (to - from) (now (out .entry)) ⌝ }

@@ -1,5 +1,5 @@
 // Segments of a row rebuilt in place, a loop for each mode so that the mode is not tested for each pixel. `rows` holds the row above and then the row,
-// `w` pixels each; the pixels from `from` up to `to` gain their predictions.
+// `w` pixels each; the pixels from `from` up to `to` gain their predictions. Modes 0 and 1 read no row above, and serve row 0 too.
 use crate::select::apply_predictor_transform_11;
 use format::Pixel;
 use pixel::byte::average2;
@@ -54,7 +54,7 @@ fn byte_back(rows: &[u8], back: usize, i: usize) -> u8
     wrapping_add_u8(rows[i], rows[i - back])
 }
 
-// Each byte gains the byte that stands `back` bytes before it: a loop over bytes is vectorised where no byte gains one that it rebuilt.
+// Each byte gains the byte that stands `back` bytes before it: a loop over bytes is vectorized where no byte gains one that it rebuilt.
 fn add_back(rows: &mut [u8], back: usize, from: usize, to: usize)
     requires { ⌜ (back ≤ from) × (from ≤ to) × (to ≤ length (now rows)) ⌝ }
     ensures { λ _. ⌜ now (rows .exit) ≡ run byteCells (bytewise first back back) from (to - from) (now (rows .entry)) ⌝ }

@@ -1,4 +1,4 @@
-// Mode 11 rebuilt in place. Which neighbour the next pixel takes is worked out for both values that this pixel can have, so that the sum of distances
+// Mode 11 rebuilt in place. Which neighbor the next pixel takes is worked out for both values that this pixel can have, so that the sum of distances
 // does not wait for this pixel's choice, and no choice is a branch.
 use format::Pixel;
 use pixel::pixel::add_pixels;
@@ -17,7 +17,7 @@ ghost use Rattle.format.specs.Predictor.{between};
 ghost use Rattle.pixel.specs.Cells.{pixelCells, run};
 ghost use Rattle.predictor.specs.Row.{around, gains, leftNearer, Inside, Segment};
 
-// A pixel that is rebuilt, and whether the next one takes its left neighbour.
+// A pixel that is rebuilt, and whether the next one takes its left neighbor.
 struct Turn {
     pixel: Pixel,
     near: bool,
@@ -29,7 +29,7 @@ fn pick_bool(near: bool, a: bool, b: bool) -> bool
     if near { a } else { b }
 }
 
-// `next` is the top neighbour of the next pixel, whose top-left one is t.
+// `next` is the top neighbor of the next pixel, whose top-left one is t.
 fn choose(residual: Pixel, l: Pixel, t: Pixel, next: Pixel, near: bool) -> Turn
     ensures { λ r. ⌜ (r .pixel ≡ each add residual (if near then l else t)) × (r .near ≡ ltb (between next t) (between (r .pixel) t)) ⌝ }
 {

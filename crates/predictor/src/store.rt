@@ -8,8 +8,6 @@ use pixel::pixel::subtract_pixels;
 ghost use mathlib.Core.Path.{_≡_};
 ghost use Prim.Native.Nat.{_+_, _-_, _*_, _<_, _≤_};
 ghost use lib.ListN.{length};
-ghost use Rattle.format.specs.Byte.{sub};
-ghost use Rattle.format.specs.Pixel.{each, black};
 ghost use Rattle.format.specs.Picture.{pixels, written};
 ghost use Rattle.format.specs.Predictor.{residuals};
 ghost use Rattle.pixel.specs.Cells.{pixelCells, run, given};

@@ -19,6 +19,7 @@ pub enum Next {
         transform: usize,
         same: bool,
         back: bool,
+        refused: bool,
     },
     Malformed,
     End,
@@ -123,10 +124,15 @@ pub fn replay_next() -> Next {
     }
     let c = case_of(&header);
     match replay_case(c) {
-        Outcome::Compared { same, back } => Next::Compared {
+        Outcome::Compared {
+            same,
+            back,
+            refused,
+        } => Next::Compared {
             transform: c.transform,
             same,
             back,
+            refused,
         },
         Outcome::Malformed => Next::Malformed,
     }

@@ -1,5 +1,6 @@
 // Replays the oracle's list from standard input: every case through our code, byte by byte against the Rust's answer, and stored back.
 mod case;
+mod entries;
 mod list;
 mod sizes;
 mod tally;
@@ -10,26 +11,39 @@ use list::Next;
 use list::replay_next;
 use tally::count;
 use tally::report;
+use tally::report_stored;
 
 // A proved loop has to end, and nothing says that an input does: the turns are counted down, from a number that no run uses up.
-fn replay_all(cases: &mut [u64; 5], differences: &mut [u64; 5], lost: &mut [u64; 5]) {
+fn replay_all(
+    cases: &mut [u64; 5],
+    differences: &mut [u64; 5],
+    lost: &mut [u64; 5],
+    refusals: &mut [u64; 5],
+) {
     let mut turns = u64::MAX;
-    while turns > 0 && replay_counted(cases, differences, lost) {
+    while turns > 0 && replay_counted(cases, differences, lost, refusals) {
         turns -= 1;
     }
 }
 
 // Replays the next case and counts it. Says whether to go on: not after a malformed case, since the next header is then not found.
-fn replay_counted(cases: &mut [u64; 5], differences: &mut [u64; 5], lost: &mut [u64; 5]) -> bool {
+fn replay_counted(
+    cases: &mut [u64; 5],
+    differences: &mut [u64; 5],
+    lost: &mut [u64; 5],
+    refusals: &mut [u64; 5],
+) -> bool {
     match replay_next() {
         Next::Compared {
             transform,
             same,
             back,
+            refused,
         } => {
             count(cases, transform, true);
             count(differences, transform, !same);
             count(lost, transform, !back);
+            count(refusals, transform, refused);
             true
         }
         Next::Malformed => {
@@ -44,10 +58,12 @@ fn main() {
     let mut cases = [0u64; 5];
     let mut differences = [0u64; 5];
     let mut lost = [0u64; 5];
-    replay_all(&mut cases, &mut differences, &mut lost);
+    let mut refusals = [0u64; 5];
+    replay_all(&mut cases, &mut differences, &mut lost, &mut refusals);
     report(b"predictor", cases[0], differences[0], lost[0]);
     report(b"color", cases[1], differences[1], lost[1]);
     report(b"subtract green", cases[2], differences[2], lost[2]);
     report(b"color table", cases[3], differences[3], lost[3]);
+    report_stored(cases[3], refusals[3]);
     report(b"color map", cases[4], differences[4], lost[4]);
 }

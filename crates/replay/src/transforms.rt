@@ -1,5 +1,6 @@
 // Each transform on a case: rebuilt from the input and compared with the output, then stored back and compared with the input. `image` and `strip` have
 // the output's length.
+use crate::entries::every_pixel_has_entry;
 use crate::sizes::blocks_len;
 use crate::sizes::packed_len;
 use color::color::apply_color_transform;
@@ -7,7 +8,7 @@ use color::color::store_color_transform;
 use color::subtract_green::apply_subtract_green_transform;
 use color::subtract_green::store_subtract_green_transform;
 use color_table::pack::Packing;
-use color_table::pack::store_color_indexing;
+use color_table::pack::store_color_indexing_transform;
 use color_table::unpack::apply_color_indexing_transform;
 use letchwater::letchwater_adjust_color_map;
 use letchwater::letchwater_unadjust_color_map;
@@ -17,9 +18,13 @@ ghost use Prim.Native.Nat.{_*_, _≤_};
 ghost use lib.ListN.{length};
 ghost use Rattle.pixel.specs.Sizes.{Sized, Holds, Blocked};
 
-// Whether the output is the oracle's, and whether undoing gives the input.
+// Whether the output is the oracle's, whether undoing gives the input, and whether storing refused.
 pub enum Outcome {
-    Compared { same: bool, back: bool },
+    Compared {
+        same: bool,
+        back: bool,
+        refused: bool,
+    },
     Malformed,
 }
 
@@ -27,6 +32,7 @@ fn compared(image: &[u8], output: &[u8], strip: &[u8], input: &[u8]) -> Outcome 
     Outcome::Compared {
         same: check::same(image, output),
         back: check::same(strip, input),
+        refused: false,
     }
 }
 
@@ -118,25 +124,36 @@ pub fn replay_subtract_green(
     compared(image, output, strip, input)
 }
 
-// Whether `image`, stored and rebuilt in `strip`, is the same again. The strips need not be, since a pixel may have several indices. A picture with a
-// pixel that has no entry is not stored.
-fn given_back(
+// Stores `image` and rebuilds it in `strip`: the pictures have to be the same. The strips need not be, since a pixel may have several indices. Where a
+// pixel has no entry, and only there, the answer has to be a refusal.
+fn store_back(
+    same: bool,
     width: usize,
     height: usize,
     size: usize,
     entries: &[u8],
     image: &[u8],
     strip: &mut [u8],
-) -> bool
+) -> Outcome
     requires { ⌜ Sized width height ⌝ }
     requires { ⌜ Holds width height (now image) × Holds width height (now strip) ⌝ }
     requires { ⌜ (1 ≤ size) × (size ≤ 256) × (4 * size ≤ length (now entries)) ⌝ }
 {
-    match store_color_indexing(image, strip, width, height, size, entries) {
-        Packing::NoEntry => true,
+    let storable = every_pixel_has_entry(image, entries, size);
+    match store_color_indexing_transform(image, strip, width, height, size, entries) {
+        Packing::NoEntry => Outcome::Compared {
+            same,
+            back: !storable,
+            refused: true,
+        },
         Packing::Stored => {
             apply_color_indexing_transform(strip, width, height, size, entries);
-            check::same(strip, image)
+            let back = check::same(strip, image);
+            Outcome::Compared {
+                same,
+                back: storable && back,
+                refused: false,
+            }
         }
     }
 }
@@ -169,8 +186,7 @@ pub fn replay_color_table(
     bytes::copy(input, image);
     apply_color_indexing_transform(image, width, height, size, entries);
     let same = check::same(image, output);
-    let back = given_back(width, height, size, entries, image, strip);
-    Outcome::Compared { same, back }
+    store_back(same, width, height, size, entries, image, strip)
 }
 
 // A refusal counts as a difference.
@@ -185,5 +201,6 @@ pub fn replay_color_map(input: &[u8], output: &[u8], image: &mut [u8]) -> Outcom
     Outcome::Compared {
         same: adjusted == 0 && same,
         back: unadjusted == 0 && back,
+        refused: false,
     }
 }

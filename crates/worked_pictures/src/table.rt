@@ -1,7 +1,7 @@
 // The color table.
 use crate::print::line;
 use color_table::pack::Packing;
-use color_table::pack::store_color_indexing;
+use color_table::pack::store_color_indexing_transform;
 use color_table::unpack::apply_color_indexing_transform;
 ghost use Prim.Native.Nat.{_≤_};
 
@@ -17,7 +17,7 @@ fn five(entries: &[u8; 12]) -> [u8; 20] {
 // The strip of a picture that is stored, or refusal 21.
 fn store(name: &[u8], picture: &[u8; 20], entries: &[u8; 12]) {
     let mut strip = [0u8; 8];
-    match store_color_indexing(picture, &mut strip, 5, 1, 3, entries) {
+    match store_color_indexing_transform(picture, &mut strip, 5, 1, 3, entries) {
         Packing::Stored => line(name, &strip),
         Packing::NoEntry => line(name, &[21]),
     }

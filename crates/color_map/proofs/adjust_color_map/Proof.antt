@@ -1,5 +1,5 @@
 -- `adjust_color_map` meets its contract: before each turn the bytes up to i are adjusted.
-use mathlib.Core.Path.{_≡_, refl, _∙_}
+use mathlib.Core.Path.{_≡_, refl}
 use Prim.Native.Nat.{_≤_, _-_}
 use native.Mathlib.Omega.{arith}
 use borrow.Author.Needs.{needs}

@@ -1,5 +1,5 @@
 -- `unadjust_color_map` meets its contract: before each turn the bytes from i on are unadjusted, and those before i are the first ones.
-use mathlib.Core.Path.{_≡_, refl, sym, _∙_}
+use mathlib.Core.Path.{_≡_, refl}
 use Prim.Native.Nat.{_≤_, _-_}
 use native.Mathlib.Omega.{arith}
 use borrow.Author.Needs.{needs}
@@ -7,7 +7,7 @@ use lib.ListN.{length, length-set}
 use Rattle.format.specs.Picture.{byteAt}
 use Rattle.format.specs.ColorMap.{unadjusted}
 use Rattle.pixel.specs.Cells.{byteCells, run}
-use Rattle.pixel.proofs.Cells.{byte-lawful, run-none}
+use Rattle.pixel.proofs.Cells.{run-none}
 use Rattle.color_map.proofs.Laws.{unadjusted-more, unadjusted-run}
 use Rattle.color_map.proofs.unadjust_color_map.Statement.{statement}
 use Rattle.color_map.proofs.unadjust_color_map.Tie as tie

@@ -1,5 +1,4 @@
 -- `refused` meets its contract: each test of the code is one of the definition's.
-use borrow.Author.Needs.{needs}
 use borrow.Author.Tests.{eq-eqb, ne-eqb, lt-ltb, le-ltb}
 use Rattle.letchwater.proofs.refused.Statement.{statement}
 use Rattle.letchwater.proofs.refused.Tie as tie

@@ -5,10 +5,10 @@ use Rattle.replay.proofs.replay_all.Statement.{statement}
 use Rattle.replay.proofs.replay_all.Tie as tie
 
 abbrev Inv-loop : tie.InvT-loop
-Inv-loop cases₀ differences₀ lost₀ turns₀ cases differences lost turns = Unit {0}
+Inv-loop cases₀ differences₀ lost₀ refusals₀ turns₀ cases differences lost refusals turns = Unit {0}
 
 abbrev μ-loop : tie.MeasureT-loop
-μ-loop cases₀ differences₀ lost₀ turns₀ cases differences lost turns = turns
+μ-loop cases₀ differences₀ lost₀ refusals₀ turns₀ cases differences lost refusals turns = turns
 
 pub replay-all-spec : {M : Type 1} → statement M
 replay-all-spec =

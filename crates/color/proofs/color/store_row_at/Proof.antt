@@ -15,9 +15,9 @@ there : (s : tie.Start) → s .args .y * s .args .width + s .args .width ≤ s .
 there s = row-there (s .args .width) (s .args .height) (s .args .y) (omega arith)
 
 -- and so are the data of its row of blocks
-across : (c : tie.After-subsample-size)
+bx : (c : tie.After-subsample-size)
     → 4 * (c .before .before .before .before .args .y / 2 ^ c .before .before .before .before .args .bits * c .subsample-size .result) + 4 * c .subsample-size .result ≤ length (c .before .before .before .before .args .blocks .now)
-across c =
+bx c =
     let a = c .before .before .before .before .args in
     rw (c .subsample-size .ensures) (omega (arith, blocks-there (a .width) (a .height) (a .bits) (a .y) (omega arith)))
 
@@ -31,10 +31,10 @@ store-row-at-spec =
     (λ c. omega (arith, there (c .before .before .before)))
     (λ c κs. search needs)
     (λ c. search needs)
-    (λ c. omega (arith, across c))
-    (λ c. omega (arith, across c))
-    (λ c. omega (arith, across c))
-    (λ c. omega (arith, across c))
+    (λ c. omega (arith, bx c))
+    (λ c. omega (arith, bx c))
+    (λ c. omega (arith, bx c))
+    (λ c. omega (arith, bx c))
     (λ c. search needs)
     (λ c. search needs)
     (λ c. omega (arith, there (c .before .before .before .before)))
@@ -43,12 +43,12 @@ store-row-at-spec =
     (λ c. omega (arith, there (c .before .before .before .before .before)))
     (λ c. search needs)
     (λ c. search needs)
-    (λ c. omega (arith, across (c .before .before)))
+    (λ c. omega (arith, bx (c .before .before)))
     (λ c κs. search needs)
     (λ c. search needs)
     (λ c.
     let r = c .before .before in
     let z = r .before .before .before .before in
     let a = z .before .before .before .before .args in
-    lent _ _ _ _ (a .y * a .width) (a .width) _ _ (r .store-row .ensures) (row-blocks transformColor (a .width) (a .bits) (a .y) _ _ (z .subsample-size .ensures) (across z))
+    lent _ _ _ _ (a .y * a .width) (a .width) _ _ (r .store-row .ensures) (row-blocks transformColor (a .width) (a .bits) (a .y) _ _ (z .subsample-size .ensures) (bx z))
     (λ p q i l e. pixels-part (a .y * a .width) (a .width) _ (omega (arith, there (z .before .before .before .before))) i l) (omega (arith, there (z .before .before .before .before)))))

@@ -45,7 +45,7 @@ store-segment-spec =
       omega arith,
       omega arith,
       p .kept .0 ∙ l .2,
-      λ e f. turn _ _ _ _ _ _ _ _ _ (l .3 e f) (v .before .read-pixel .ensures) (v .reduce-pixel .ensures e f) (p .ensures) (l .0),
+      λ e f. turn _ _ _ _ _ _ _ _ _ (l .3 e f) (v .before .read-pixel .ensures) (v .store-pixel .ensures e f) (p .ensures) (l .0),
     ))
     (λ c. search needs)
     (λ c.

@@ -38,7 +38,7 @@ store-row-spec =
     let p = c .before .before .write-pixel in (
       omega arith,
       p .kept .0 ∙ l .1,
-      turn _ _ _ _ _ _ _ _ _ (l .2) (v .before .read-pixel .ensures) (v .reduce-pixel .ensures) (p .ensures) (omega arith),
+      turn _ _ _ _ _ _ _ _ _ (l .2) (v .before .read-pixel .ensures) (v .store-pixel .ensures) (p .ensures) (omega arith),
     ))
     (λ c. search needs)
     (λ c. run-all _ _ _ _ _ (c .before .loop .inv .2) (omega arith)))

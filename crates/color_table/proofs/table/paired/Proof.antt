@@ -24,13 +24,14 @@ paired-spec =
     (λ c. (omega arith, square-small _ (c .before .pre .0) (c .before .pre .1), c .no-pairs .ensures, pairs-none _ _ _))
     (λ c. omega arith)
     (λ c. omega arith)
-    (λ c. omega arith)
-    (λ c κs.
+    (λ c.
     let s = c .before .before .before .before in
-    let k = c .before .before .loop .k in
-    let a = low-small (s .args .range) (s .pre .0) (s .pre .1) k in
-    let b = high-small (s .args .range) (s .pre .0) (s .pre .1) k (omega arith) in
-    (omega arith, omega arith))
+    omega (arith, low-small (s .args .range) (s .pre .0) (s .pre .1) (c .before .before .loop .k)))
+    (λ c. omega arith)
+    (λ c.
+    let s = c .before .before .before .before in
+    omega (arith, high-small (s .args .range) (s .pre .0) (s .pre .1) (c .before .before .loop .k) (omega arith)))
+    (λ c κs. search needs)
     (λ c. omega arith)
     (λ c. omega arith)
     (λ c. omega arith)

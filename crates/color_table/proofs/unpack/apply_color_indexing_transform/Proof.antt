@@ -1,8 +1,7 @@
 -- `apply_color_indexing_transform` meets its contract: both ways write the unpacked pixels.
 use mathlib.Core.Path.{_∙_}
 use borrow.Author.Needs.{needs}
-use Rattle.pixel.proofs.Given.{given-same, given-written}
-use Rattle.color_table.proofs.Looked.{looked-whole}
+use Rattle.pixel.proofs.Given.{given-written}
 use Rattle.color_table.proofs.unpack.apply_color_indexing_transform.Statement.{statement}
 use Rattle.color_table.proofs.unpack.apply_color_indexing_transform.Tie as tie
 
@@ -12,13 +11,8 @@ apply-color-indexing-transform-spec =
     (tie.spec
     (λ c κs. search needs)
     (λ c κs. search needs)
-    (λ c. search needs)
     (λ c κs. search needs)
     (λ c. search needs)
     (λ c. let s = c .before .before .before .before .before .before .before .before in c .before .before .unpack-rows .ensures _ (c .before .before .before .before .before .padded .ensures) ∙ given-written _ _ _ (s .pre .1 .0))
     (λ c. search needs)
-    (λ c.
-    let s = c .before .before .before .before .before .before .before .before in
-    c .before .before .look-up-pixels .ensures
-    ∙ given-same _ _ _ _ _ (λ i l u. looked-whole (s .args .width) _ _ _ _ i (c .before .before .before .before .before .padded .ensures) (c .before .before .before .before .if1 .left))
-    ∙ given-written _ _ _ (s .pre .1 .0)))
+    (λ c. let s = c .before .before .before .before .before .before .before .before in c .before .before .look-up-rows .ensures _ (c .before .before .before .before .before .padded .ensures) ∙ given-written _ _ _ (s .pre .1 .0)))

@@ -31,9 +31,10 @@ expand-last-spec =
     (λ c. (omega arith, refl, digit-first _ _, (λ e h. given-none _ _ _)))
     (λ c. omega arith)
     (λ c. omega arith)
-    (λ c κs.
+    (λ c.
     let s = c .before .before .before .before in
     omega (arith, mod-lt (c .before .before .loop .b) {m = s .args .range} (s .pre .0)))
+    (λ c κs. search needs)
     (λ c κs. omega arith)
     (λ c. omega arith)
     (λ c. omega arith)

@@ -15,5 +15,4 @@ packed-byte-spec =
     (λ c. search needs)
     (λ c. search needs)
     (λ c. search needs)
-    (λ c. omega (arith, c .shared-slice-known .given (4 * c .before .args .k + 1)))
     (λ c. (refl, omega (arith, c .shared-slice-known .given (4 * c .before .args .k + 1)))))

@@ -1,7 +1,10 @@
 -- `unpack_band` meets its contract, test by test.
+use native.Mathlib.Omega.{arith}
 use borrow.Author.Needs.{needs}
 use borrow.Author.Tests.{le-leb, lt-leb}
 use Rattle.format.specs.ColorTable.{perPixel}
+use Rattle.color_table.proofs.Looked.{looked-row}
+use Rattle.color_table.proofs.Rows.{table-part}
 use Rattle.color_table.proofs.unpack.unpack_band.Statement.{statement}
 use Rattle.color_table.proofs.unpack.unpack_band.Tie as tie
 
@@ -13,9 +16,24 @@ unpack-band-spec =
     (λ c κs. search needs)
     (λ c κs. search needs)
     (λ c κs. search needs)
+    (λ c κs. search needs)
     (λ c. search needs)
-    (λ c. rw (le-leb _ _ (c .before .before .before .before .if1 .taken)) (c .before .before .unpack-row .ensures))
+    (λ c e h k.
+    let l = c .before .before .before .before .if1 .taken in
+    rw (le-leb _ _ l) (c .before .before .unpack-row .ensures e (table-part 2 _ _ h (omega arith)) (rw (le-leb _ _ l) at (k (omega arith)))))
     (λ c. search needs)
-    (λ c. rw (lt-leb _ _ (c .before .before .before .before .before .if1 .left), le-leb _ _ (c .before .before .before .before .if2 .taken)) (c .before .before .unpack-row2 .ensures))
+    (λ c e h k.
+    let m = c .before .before .before .before .before .if1 .left in
+    let l = c .before .before .before .before .if2 .taken in
+    rw (lt-leb _ _ m, le-leb _ _ l) (c .before .before .unpack-row2 .ensures e (table-part 4 _ _ h (omega arith)) (rw (lt-leb _ _ m, le-leb _ _ l) at (k (omega arith)))))
     (λ c. search needs)
-    (λ c. rw (lt-leb _ _ (c .before .before .before .before .before .if1 .left), lt-leb _ _ (c .before .before .before .before .if2 .left), le-leb (c .before .before .before .before .before .before .before .args .size) 16 (c .before .before .before .before .before .before .before .pre .0)) (c .before .before .unpack-row3 .ensures)))
+    (λ c e h k.
+    let m = c .before .before .before .before .before .before .if1 .left in
+    let n = c .before .before .before .before .before .if2 .left in
+    let l = c .before .before .before .before .if3 .taken in
+    rw (lt-leb _ _ m, lt-leb _ _ n, le-leb _ _ l) (c .before .before .unpack-row3 .ensures e (table-part 16 _ _ h (omega arith)) (rw (lt-leb _ _ m, lt-leb _ _ n, le-leb _ _ l) at (k l))))
+    (λ c. search needs)
+    (λ c e h k.
+    let s = c .before .before .before .before .before .before .before .before in
+    let l = c .before .before .before .before .if3 .left in
+    looked-row (s .args .size) e _ h l _ _ _ _ (s .pre .2 l) (c .before .before .look-up-row .ensures)))

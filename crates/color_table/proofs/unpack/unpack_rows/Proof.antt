@@ -15,8 +15,7 @@ use Rattle.color_table.proofs.unpack.unpack_rows.Tie as tie
 abbrev Inv-loop : tie.InvT-loop
 Inv-loop image₀ width height size table pairs packed y₀ image y =
     (y ≤ height) × (length image ≡ length image₀) × (packed .0 ≡ packedWidth size width)
-    × ((e : Picture) → TableOf (range (perPixel size)) e table → PairsOf (range (perPixel size)) e pairs)
-    × (range (perPixel size) ≤ 16)
+    × ((e : Picture) → TableOf 256 e table → PairsOf (range (perPixel size)) e pairs)
     × ((e : Picture) → TableOf 256 (entry size e) table → image ≡ run pixelCells (given (unpacked width size e (pixels image₀))) (y * width) (height * width - y * width) image₀)
 
 abbrev μ-loop : tie.MeasureT-loop
@@ -32,19 +31,14 @@ unpack-rows-spec =
     (λ c κs. (c .index-range .ensures .1, c .index-range .ensures .5 (c .before .before .pre .1 .1)))
     (λ c κs. omega arith)
     (λ c.
-    let i = c .before .before .index-range .ensures in (
-      omega arith,
-      refl,
-      c .packed-width .ensures,
-      rw (← i .0) (c .before .paired .ensures),
-      rw (← i .0) (i .5 (c .before .before .before .before .pre .1 .1)),
-      (λ e h. rows-none _ _ _ e (c .before .before .before .before .pre .0 .wide) _),
-    ))
+    let i = c .before .before .index-range .ensures in
+    let s = c .before .before .before .before in
+    (omega arith, refl, c .packed-width .ensures, (λ e h. rw (← i .0) (c .before .paired .ensures e (table-part _ _ _ h (i .5 (s .pre .1 .1))))), (λ e h. rows-none _ _ _ e (s .pre .0 .wide) _)))
     (λ c. omega arith)
     (λ c κs.
     let l = c .before .before .before .before .loop in
     let s = c .before .before .before .before .before .before .before .before .before in
-    (s .pre .1 .1, s .pre .0 .wide, l .inv .2, row-room _ _ _ _ _ (s .pre .1 .0) (l .inv .1) (omega arith)))
+    (s .pre .0 .wide, l .inv .2, row-room _ _ _ _ _ (s .pre .1 .0) (l .inv .1) (omega arith)))
     (λ c. omega arith)
     (λ c. omega arith)
     (λ c.
@@ -55,10 +49,7 @@ unpack-rows-spec =
       p .kept .0 ∙ l .inv .1,
       l .inv .2,
       l .inv .3,
-      l .inv .4,
-      (λ e h.
-          let t = table-part _ _ _ h (l .inv .4) in
-          rows-turn _ _ _ e (s .pre .0 .wide) _ _ _ _ _ (l .inv .5 e h) (p .ensures e t (l .inv .3 _ t)) (omega arith) (l .inv .0)),
+      (λ e h. rows-turn _ _ _ e (s .pre .0 .wide) _ _ _ _ _ (l .inv .4 e h) (p .ensures e h (λ k. l .inv .3 _ h)) (omega arith) (l .inv .0)),
     ))
     (λ c. search needs)
-    (λ c e h. rows-done _ _ _ e (c .before .before .before .before .before .before .pre .0 .wide) _ _ _ (c .before .loop .inv .5 e h) (omega arith)))
+    (λ c e h. rows-done _ _ _ e (c .before .before .before .before .before .before .pre .0 .wide) _ _ _ (c .before .loop .inv .4 e h) (omega arith)))

@@ -1,5 +1,5 @@
 -- `block_end` meets its contract: column x stands before the end of its block.
-use mathlib.Core.Path.{_≡_, sym}
+use mathlib.Core.Path.{_≡_}
 use Prim.Native.Nat.{ℕ, _+_, _*_, _/_, _^_, _≤_, _<_}
 use native.Mathlib.Nat.{div-mul-le-self, lt-div-mul-add, le-refl}
 use native.Mathlib.Omega.{arith}

@@ -1,5 +1,4 @@
 -- `subsample_size` meets its contract: a shift is a division by the side.
-use mathlib.Core.Path.{refl}
 use borrow.Author.Needs.{needs}
 use Rattle.pixel.proofs.block.subsample_size.Statement.{statement}
 use Rattle.pixel.proofs.block.subsample_size.Tie as tie

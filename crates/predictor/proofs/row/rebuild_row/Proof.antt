@@ -1,5 +1,5 @@
 -- `rebuild_row` meets its contract: before each turn column 0 and the columns up to x are rebuilt.
-use mathlib.Core.Path.{_≡_, refl, _∙_}
+use mathlib.Core.Path.{_≡_, _∙_}
 use Prim.Native.Nat.{_+_, _-_, _*_, _≤_}
 use borrow.Author.Needs.{needs}
 use native.Mathlib.Omega.{arith}

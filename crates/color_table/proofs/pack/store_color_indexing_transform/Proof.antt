@@ -1,11 +1,13 @@
--- `store_color_indexing` meets its contract: the answer and the strip go by whether the picture is accepted.
+-- `store_color_indexing_transform` meets its contract: the answer and the strip go by whether the picture is accepted.
 use mathlib.Core.Path.{refl, sym, _∙_}
 use borrow.Author.Needs.{needs}
-use Rattle.color_table.proofs.pack.store_color_indexing.Statement.{statement}
-use Rattle.color_table.proofs.pack.store_color_indexing.Tie as tie
+use Rattle.format.specs.ColorTable.{storedAnswer, storedStrip}
+use Rattle.color_table.proofs.pack.store_color_indexing_transform.Statement.{statement}
+use Rattle.color_table.proofs.pack.store_color_indexing_transform.Tie as tie
 
-pub store-color-indexing-spec : {M : Type 1} → statement M
-store-color-indexing-spec =
+pub store-color-indexing-transform-spec : {M : Type 1} → statement M
+unfolding storedAnswer storedStrip
+store-color-indexing-transform-spec =
     tie.close
     (tie.spec
     (λ c κs. search needs)

@@ -1,14 +1,14 @@
--- `reduce_pixel` meets its contract: each difference is the definition's, with the deltas of the data pixel.
+-- `store_pixel` meets its contract: each difference is the definition's, with the deltas of the data pixel.
 use Rattle.format.specs.Color.{transformColor}
 use native.Mathlib.Omega.{arith}
 use borrow.Author.Needs.{needs}
 use Rattle.color.proofs.Delta.{wrapped}
-use Rattle.color.proofs.color.reduce_pixel.Statement.{statement}
-use Rattle.color.proofs.color.reduce_pixel.Tie as tie
+use Rattle.color.proofs.color.store_pixel.Statement.{statement}
+use Rattle.color.proofs.color.store_pixel.Tie as tie
 
-pub reduce-pixel-spec : {M : Type 1} → statement M
+pub store-pixel-spec : {M : Type 1} → statement M
 unfolding transformColor
-reduce-pixel-spec =
+store-pixel-spec =
     tie.close
     (tie.spec
     (λ c κs. search needs)

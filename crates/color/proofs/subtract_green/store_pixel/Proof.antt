@@ -1,12 +1,12 @@
--- `reduce_pixel` meets its contract: red and blue lose green.
+-- `store_pixel` meets its contract: red and blue lose green.
 use native.Mathlib.Omega.{arith}
 use borrow.Author.Needs.{needs}
 use Rattle.color.proofs.Delta.{wrapped}
-use Rattle.color.proofs.subtract_green.reduce_pixel.Statement.{statement}
-use Rattle.color.proofs.subtract_green.reduce_pixel.Tie as tie
+use Rattle.color.proofs.subtract_green.store_pixel.Statement.{statement}
+use Rattle.color.proofs.subtract_green.store_pixel.Tie as tie
 
-pub reduce-pixel-spec : {M : Type 1} → statement M
-reduce-pixel-spec =
+pub store-pixel-spec : {M : Type 1} → statement M
+store-pixel-spec =
     tie.close
     (tie.spec
     (λ c κs. search needs)

@@ -8,11 +8,12 @@ use lib.ListN.{length}
 use Rattle.format.specs.declared.Pixel.{Pixel}
 use Rattle.format.specs.Picture.{Picture, pixels, ceiling, block}
 use Rattle.pixel.specs.Cells.{pixelCells, run}
-use Rattle.pixel.specs.Sizes.{BlockEnd}
+use Rattle.pixel.specs.Blocks.{BlockEnd}
 use Rattle.pixel.proofs.Blocks.{same-block, block-there}
 use Rattle.pixel.proofs.Cells.{pixel-lawful, run-same}
 use Rattle.color.specs.Row.{pointwise, everywhere, inRow, inPicture}
-use Rattle.color.proofs.Pointwise.{run-then, part, pixels-part}
+use Rattle.pixel.proofs.Rows.{run-then}
+use Rattle.color.proofs.Pointwise.{part, pixels-part}
 
 -- columns of one block, whose data pixel is v
 one-block : (t : Pixel → Pixel → Pixel) (s : Picture → Picture) (w bits x e : ℕ) (bs : List ℕ) (v : Pixel) (xs : List ℕ) → v ≡ pixels bs (x / 2 ^ bits) → BlockEnd w bits x e

@@ -1,38 +1,18 @@
--- Pixels made each from the pixel of the same index: a turn of a loop, parts joined, a row that is lent, and the whole.
+-- Pixels made each from the pixel of the same index: a turn of a loop, a row that is lent, and the whole.
 use mathlib.Core.List.{List}
-use mathlib.Core.Path.{_≡_, refl, sym, ap, _∙_}
+use mathlib.Core.Path.{_≡_, sym, ap, _∙_}
 use Prim.Native.Nat.{ℕ, _+_, _-_, _*_, _<_, _≤_}
-use native.Mathlib.Nat.{zero-mul, zero-add, add-zero, le-refl, add-mul, one-mul}
+use native.Mathlib.Nat.{add-zero, le-refl}
 use native.Mathlib.Omega.{arith}
 use lib.ListN.{length, take, drop}
 use Rattle.format.specs.declared.Pixel.{Pixel}
 use Rattle.format.specs.Picture.{Picture, pixels, written, inOrder}
 use Rattle.format.proofs.Picture.{written-same, inOrder-at, inOrder-ahead}
-use Rattle.pixel.specs.Cells.{pixelCells, putPixel, Rule, run}
-use Rattle.pixel.proofs.Cells.{run-more, run-append}
+use Rattle.pixel.specs.Cells.{pixelCells, putPixel, run}
+use Rattle.pixel.proofs.Cells.{run-more}
 use Rattle.pixel.proofs.Front.{pixels-run}
 use Rattle.pixel.proofs.Part.{back, part-run, pixel-part}
 use Rattle.color.specs.Row.{pointwise}
-
--- a loop from the front: before the first turn, and after the last
-pub run-zero : (h : Rule Pixel) (xs : List ℕ) → xs ≡ run pixelCells h 0 0 xs
-unfolding run
-run-zero h xs = refl
-
-pub no-rows : (h : Rule Pixel) (w : ℕ) (xs : List ℕ) → xs ≡ run pixelCells h 0 (0 * w) xs
-no-rows h w xs = rw zero-mul (run-zero h xs)
-
-pub run-all : (h : Rule Pixel) (m n : ℕ) (xs ys : List ℕ) → ys ≡ run pixelCells h 0 m xs → m ≡ n → ys ≡ run pixelCells h 0 n xs
-run-all h m n xs ys e q = rw q at e
-
--- one part after another
-pub run-then : (h : Rule Pixel) (n m k : ℕ) (xs ys zs : List ℕ) → ys ≡ run pixelCells h 0 n xs → zs ≡ run pixelCells h n m ys → n + m ≡ k → zs ≡ run pixelCells h 0 k xs
-run-then h n m k xs ys zs e q j = q ∙ rw e (rw (zero-add, j) at (run-append pixelCells h 0 xs n m))
-
--- one row more
-pub row-more : (h : Rule Pixel) (y w : ℕ) (xs ys zs : List ℕ) → ys ≡ run pixelCells h 0 (y * w) xs → zs ≡ run pixelCells h (y * w) w ys
-    → zs ≡ run pixelCells h 0 ((y + 1) * w) xs
-row-more h y w xs ys zs e q = run-then h (y * w) w ((y + 1) * w) xs ys zs e q (sym (rw (add-mul, one-mul) refl))
 
 module _ (k : ℕ → Pixel → Pixel) (s : Picture → Picture) where
   -- a turn reads pixel i as u, and writes v

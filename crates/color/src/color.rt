@@ -14,7 +14,8 @@ ghost use lib.ListN.{length};
 ghost use Rattle.format.specs.Picture.{pixels, written};
 ghost use Rattle.format.specs.Color.{inverseColor, transformColor, colorRebuilt, colorStored};
 ghost use Rattle.pixel.specs.Cells.{pixelCells, run};
-ghost use Rattle.pixel.specs.Sizes.{Sized, Holds, Blocked, BlockedRow};
+ghost use Rattle.format.specs.Sizes.{Sized, Holds, Blocked};
+ghost use Rattle.pixel.specs.Blocks.{BlockedRow};
 ghost use Rattle.color.specs.Factor.{Factor, DeltaBy, PixelBy};
 ghost use Rattle.color.specs.Row.{inPlace, outOf, pointwise, everywhere, inRow, inPicture};
 

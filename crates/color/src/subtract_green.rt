@@ -10,7 +10,7 @@ ghost use lib.ListN.{length};
 ghost use Rattle.format.specs.Picture.{pixels, written};
 ghost use Rattle.format.specs.SubtractGreen.{addGreen, subtractGreen, greenRebuilt, greenStored};
 ghost use Rattle.pixel.specs.Cells.{pixelCells, run};
-ghost use Rattle.pixel.specs.Sizes.{Sized, Holds};
+ghost use Rattle.format.specs.Sizes.{Sized, Holds};
 ghost use Rattle.color.specs.Row.{inPlace, outOf, pointwise, everywhere};
 
 fn rebuild_pixel(v: Pixel) -> Pixel

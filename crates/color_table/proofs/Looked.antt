@@ -2,7 +2,7 @@
 use mathlib.Core.List.{List}
 use mathlib.Core.Path.{_≡_, sym, ap, _∙_}
 use Prim.Native.Nat.{ℕ, _+_, _-_, _*_, _/_, _%_, _<_, _≤_}
-use native.Mathlib.Nat.{add-zero, zero-add, zero-mul, one-mul, add-mul, div-one, mod-one, div-add-mod', mod-lt, mod-eq-of-lt}
+use native.Mathlib.Nat.{add-zero, div-one, mod-one, div-add-mod', mod-lt, mod-eq-of-lt}
 use native.Mathlib.Omega.{arith}
 use borrow.Author.Tests.{lt-leb}
 use lib.Dec.{leb}
@@ -13,7 +13,8 @@ use Rattle.pixel.specs.Cells.{pixelCells, putPixel, run, given}
 use Rattle.pixel.proofs.Cells.{pixel-lawful, run-after, run-append}
 use Rattle.color_table.specs.Table.{entryIn, TableOf}
 use Rattle.color_table.specs.Unpack.{looked, rowOf}
-use Rattle.pixel.proofs.Given.{given-same, given-none}
+use Rattle.pixel.proofs.Given.{given-same}
+use Rattle.pixel.proofs.Rows.{row-more}
 
 pub given-one : (f : Picture) (i : ℕ) (xs ys : List ℕ) (v : Pixel) → v ≡ f i → ys ≡ putPixel xs i v → ys ≡ run pixelCells (given f) i 1 xs
 unfolding run given
@@ -77,12 +78,6 @@ looked-stays size w y l =
 
 -- ---- the rows of the picture
 
-pub looked-none : (f : Picture) (w : ℕ) (xs : List ℕ) → xs ≡ run pixelCells (given f) 0 (0 * w) xs
-looked-none f w xs = rw zero-mul (given-none f 0 xs)
-
-pub looked-done : (f : Picture) (y h w : ℕ) (xs ys : List ℕ) → ys ≡ run pixelCells (given f) 0 (y * w) xs → y ≤ h → h ≤ y → ys ≡ run pixelCells (given f) 0 (h * w) xs
-looked-done f y h w xs ys e l u = let q : y ≡ h = omega arith in rw q at e
-
 module _ (w size : ℕ) (e : Picture) (some : 1 ≤ w) (l : 16 < size) where
   -- a pixel is made of the one at its place
   stays : (f g : Picture) (i : ℕ) → f i ≡ g i → unpacked w size e f i ≡ unpacked w size e g i
@@ -98,8 +93,4 @@ module _ (w size : ℕ) (e : Picture) (some : 1 ≤ w) (l : 16 < size) where
       let f = unpacked w size e (pixels xs₀) in
       let kept : (j : ℕ) → y * w ≤ j → pixels xs j ≡ pixels xs₀ j =
       λ j u. ap (λ (zs : List ℕ). pixels zs j) r ∙ run-after pixelCells pixel-lawful (given f) 0 xs₀ (y * w) j (omega arith) in
-      let z = add-mul y 1 w in
-      let o = one-mul w in
-      let a = zero-add (y * w) in
-      q ∙ given-same (unpacked w size e (pixels xs)) f (y * w) xs w (λ i t u. stays (pixels xs) (pixels xs₀) i (kept i t))
-      ∙ rw (z, o, r) (rw a at (run-append pixelCells (given f) 0 xs₀ (y * w) w))
+      row-more (given f) y w xs₀ xs ys r (q ∙ given-same (unpacked w size e (pixels xs)) f (y * w) xs w (λ i t u. stays (pixels xs) (pixels xs₀) i (kept i t)))

@@ -1,10 +1,9 @@
 -- Rows of a picture packed at their places in a strip.
 use mathlib.Core.Bool.{Bool, true}
 use mathlib.Core.List.{List}
-use mathlib.Core.Path.{_≡_, refl, sym, ap, _∙_}
+use mathlib.Core.Path.{_≡_, refl, sym, _∙_}
 use Prim.Native.Nat.{ℕ, zero, suc, _+_, _-_, _*_, _<_, _≤_}
-use native.Mathlib.Nat.{add-zero, zero-add, mul-le-mul-right, suc-mul}
-use native.Mathlib.Numerals.{add-one}
+use native.Mathlib.Nat.{add-zero}
 use native.Mathlib.Omega.{arith}
 use lib.Arith.{digits-lt}
 use lib.ListN.{length, take, drop, length-drop}
@@ -14,7 +13,6 @@ use Rattle.format.specs.Picture.{Picture, pixels, written}
 use Rattle.format.specs.ColorTable.{packedWidth, hasEntry, accepted, packed}
 use Rattle.format.proofs.Choice.{every-at, and-both}
 use Rattle.pixel.specs.Cells.{pixelCells, run, given}
-use Rattle.pixel.proofs.Cells.{run-append}
 use Rattle.pixel.proofs.Part.{back, part-run, pixel-part}
 use Rattle.pixel.proofs.Given.{given-written}
 use Rattle.color_table.proofs.Digits.{packed-in}
@@ -52,18 +50,5 @@ module _ (w size y : ℕ) (e : Picture) (xs : List ℕ) (k : ℕ) (bytes : k ≡
 
 -- ---- all rows
 
-pub row-inside-picture : (y h w : ℕ) → y < h → y * w + w ≤ h * w
-row-inside-picture y h w l = let a = mul-le-mul-right w l in let b = suc-mul y w in omega arith
-
 pub accepted-row : (size w h y : ℕ) (e f : Picture) → accepted size e (h * w) f ≡ true → y < h → (x : ℕ) → x < w → hasEntry size e (f (y * w + x)) ≡ true
 accepted-row size w h y e f a l x u = every-at (h * w) (λ q. hasEntry size e (f q)) (y * w + x) (digits-lt l u) a
-
-pub strip-none : (f : Picture) (c : ℕ) (xs : List ℕ) → xs ≡ run pixelCells (given f) 0 (0 * c) xs
-unfolding run
-strip-none f c xs = let z : 0 * c ≡ 0 = omega arith in rw z
-
-pub strip-more : (f : Picture) (c y : ℕ) (xs₀ xs ys : List ℕ) → xs ≡ run pixelCells (given f) 0 (y * c) xs₀ → ys ≡ run pixelCells (given f) (y * c) c xs → ys ≡ run pixelCells (given f) 0 ((y + 1) * c) xs₀
-strip-more f c y xs₀ xs ys r q =
-    let s : y * c + c ≡ (y + 1) * c = sym (ap (λ (z : ℕ). z * c) (add-one y) ∙ suc-mul y c) in
-    let z : 0 + y * c ≡ y * c = zero-add (y * c) in
-    q ∙ rw r (rw (z, s) at (run-append pixelCells (given f) 0 xs₀ (y * c) c))

@@ -15,7 +15,7 @@ ghost use Rattle.format.specs.Pixel.{pixel, equal};
 ghost use Rattle.format.specs.Picture.{Picture, pixels, written};
 ghost use Rattle.format.specs.ColorTable.{range, packedWidth, indexOf, hasEntry, accepted, digits, packed as packedOf, storedAnswer, storedStrip};
 ghost use Rattle.pixel.specs.Cells.{pixelCells, run, given};
-ghost use Rattle.pixel.specs.Sizes.{Sized, Holds};
+ghost use Rattle.format.specs.Sizes.{Sized, Holds};
 ghost use Rattle.color_table.specs.Pack.{answer, rowIndices, Hints};
 
 pub enum Packing {

@@ -16,7 +16,7 @@ ghost use lib.ListN.{length};
 ghost use Rattle.format.specs.Picture.{Picture, pixels, written};
 ghost use Rattle.format.specs.ColorTable.{perPixel, range, packedWidth, entry, unpacked};
 ghost use Rattle.pixel.specs.Cells.{pixelCells, putPixel, run, given};
-ghost use Rattle.pixel.specs.Sizes.{Sized, Holds};
+ghost use Rattle.format.specs.Sizes.{Sized, Holds};
 ghost use Rattle.color_table.specs.Table.{entryIn, firstIn, secondIn, TableOf, PairsOf};
 ghost use Rattle.color_table.specs.Unpack.{spread, rowOf, looked};
 

@@ -1,8 +1,8 @@
 -- Laws of the color table: what was packed is found again, digit by digit, and the entry at a pixel's index is that pixel.
 use mathlib.Core.Bool.{Bool, true, false}
-use mathlib.Core.Path.{_≡_, refl, sym, ap, _∙_, subst}
+use mathlib.Core.Path.{_≡_, refl, sym, ap, _∙_}
 use Prim.Native.Nat.{ℕ, zero, suc, _+_, _*_, _/_, _%_, _^_, _<_, _≤_}
-use native.Mathlib.Nat.{not-suc-le-zero, le-of-suc-le-suc, zero-add, pow-zero, pow-suc, pow-succ', div-one, mul-comm, mod-eq-of-lt, div-eq-of-lt, add-mul-mod-self-left, add-mul-div-left, div-div-eq-div-mul, zero-lt-suc, mod-lt, div-add-mod', div-lt-iff-lt-mul, le-div-iff-mul-le, suc-mul, div-mul-le-self, one-mul, lt-of-lt-of-le}
+use native.Mathlib.Nat.{not-suc-le-zero, le-of-suc-le-suc, zero-add, pow-zero, pow-succ', div-one, mod-eq-of-lt, div-eq-of-lt, add-mul-mod-self-left, add-mul-div-left, div-div-eq-div-mul, mod-lt, div-add-mod', div-lt-iff-lt-mul, le-div-iff-mul-le, suc-mul, div-mul-le-self, one-mul, lt-of-lt-of-le}
 use native.Mathlib.Omega.{arith}
 use borrow.Author.Tests.{ltb-true, leb-true, lt-ltb}
 use lib.Arith.{digits-lt, digits-div, digits-mod}
@@ -13,7 +13,7 @@ use Rattle.format.specs.Pixel.{equal}
 use Rattle.format.specs.Picture.{Picture, ceiling}
 use Rattle.format.specs.ColorTable.{perPixel, range, packedWidth, indexIn, entry, unpacked, lowest, indexOf, hasEntry, accepted, digits, indexAt, packed}
 use Rattle.format.proofs.Choice.{every-at}
-use Rattle.format.proofs.Pixels.{equal-true, equal-refl, Bytes}
+use Rattle.format.proofs.Pixels.{equal-true, equal-refl}
 
 -- ---- the lowest index
 

@@ -1,14 +1,12 @@
 -- Laws of the bytes at a buffer's front, and of items replaced in order.
-use mathlib.Core.List.{List, [], _∷_}
+use mathlib.Core.List.{List}
 use mathlib.Core.Path.{_≡_, refl, ap, _∙_}
-use Prim.Native.Nat.{ℕ, zero, suc, _+_, _-_, _*_, _<_, _≤_}
+use Prim.Native.Nat.{ℕ, zero, suc, _+_, _-_, _<_, _≤_}
 use native.Mathlib.Nat.{not-suc-le-zero, le-of-suc-le-suc, zero-add}
 use native.Mathlib.Omega.{arith}
 use borrow.Author.Tests.{eq-eqb, ne-eqb}
-use lib.ListN.{length, drop, set, length-drop}
-use lib.Seq.{getD-drop}
-use Rattle.format.specs.declared.Pixel.{Pixel}
-use Rattle.format.specs.Picture.{Picture, byteAt, pixels, written, writtenBytes, paint, inOrder}
+use lib.ListN.{length, drop, length-drop}
+use Rattle.format.specs.Picture.{Picture, byteAt, written, writtenBytes, paint, inOrder}
 
 -- ---- items replaced in order
 

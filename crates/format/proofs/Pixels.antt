@@ -9,7 +9,7 @@ use Rattle.format.specs.declared.Pixel.{Pixel}
 use Rattle.format.specs.Byte.{add, sub}
 use Rattle.format.specs.Pixel.{pixel, each, equal}
 use Rattle.format.proofs.Choice.{and-left, and-right}
-use Rattle.format.proofs.Byte.{add-sub, sub-add, add-byte, sub-byte}
+use Rattle.format.proofs.Byte.{add-sub, sub-add}
 
 pub record Bytes (v : Pixel) : Type 0 where
   pub red : v .red < 256

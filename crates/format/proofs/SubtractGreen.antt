@@ -1,7 +1,6 @@
 -- Laws of subtract green: the two directions undo each other on bytes.
 use mathlib.Core.Path.{_≡_}
 use Prim.Native.Nat.{ℕ}
-use Rattle.format.specs.declared.Pixel.{Pixel}
 use Rattle.format.specs.Pixel.{pixel}
 use Rattle.format.specs.Picture.{Picture}
 use Rattle.format.specs.SubtractGreen.{greenStored, greenRebuilt}

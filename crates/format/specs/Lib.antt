@@ -3,6 +3,7 @@ pub mod Choice
 pub mod Byte
 pub mod Pixel
 pub mod Picture
+pub mod Sizes
 pub mod Predictor
 pub mod Color
 pub mod SubtractGreen

@@ -8,7 +8,7 @@ use lib.ListN.{length}
 use lib.Pow.{pow-pos}
 use Rattle.format.specs.Picture.{ceiling}
 use Rattle.format.proofs.ColorTable.{column-packed}
-use Rattle.pixel.specs.Sizes.{Blocked}
+use Rattle.format.specs.Sizes.{Blocked}
 
 -- row y of h rows of w
 pub row-there : (w h y : ℕ) → y < h → y * w + w ≤ h * w

@@ -9,8 +9,8 @@ use lib.Seq.{ext-getD}
 use Rattle.format.specs.declared.Pixel.{Pixel}
 use Rattle.format.specs.Picture.{Picture, byteAt, pixels, written, writtenBytes, inOrder}
 use Rattle.format.proofs.Picture.{written-same, length-writtenBytes, byteAt-writtenBytes, inOrder-kept, paint-at}
-use Rattle.pixel.specs.Cells.{Cells, byteCells, pixelCells, putPixel, Rule, run}
-use Rattle.pixel.proofs.Cells.{Lawful, byte-lawful, pixel-lawful, get-run}
+use Rattle.pixel.specs.Cells.{Cells, pixelCells, putPixel, Rule, run}
+use Rattle.pixel.proofs.Cells.{Lawful, pixel-lawful, get-run}
 
 -- how the front of a buffer is written, one cell more at a time
 pub record Front {P : Type 0} (c : Cells P) (front : ℕ → (ℕ → P) → List ℕ → List ℕ) : Type 0 where

@@ -4,3 +4,4 @@ pub mod Part
 pub mod Channels
 pub mod Blocks
 pub mod Given
+pub mod Rows

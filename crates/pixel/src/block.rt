@@ -2,7 +2,7 @@
 ghost use mathlib.Core.Path.{_≡_};
 ghost use Prim.Native.Nat.{_^_, _<_, _≤_};
 ghost use Rattle.format.specs.Picture.{ceiling};
-ghost use Rattle.pixel.specs.Sizes.{BlockEnd};
+ghost use Rattle.pixel.specs.Blocks.{BlockEnd};
 
 // The side of a block.
 fn side(bits: u32) -> usize

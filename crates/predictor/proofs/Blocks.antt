@@ -10,7 +10,7 @@ use Rattle.format.specs.Byte.{add, sub}
 use Rattle.format.specs.Pixel.{each}
 use Rattle.format.specs.Picture.{Picture, pixels}
 use Rattle.pixel.specs.Cells.{pixelCells, putPixel, Rule, run, given}
-use Rattle.pixel.specs.Sizes.{BlockEnd}
+use Rattle.pixel.specs.Blocks.{BlockEnd}
 use Rattle.pixel.proofs.Blocks.{same-block}
 use Rattle.pixel.proofs.Given.{given-same}
 use Rattle.pixel.proofs.Cells.{pixel-lawful, run-same}

@@ -2,7 +2,7 @@
 use mathlib.Core.List.{List}
 use mathlib.Core.Path.{_≡_, refl, sym, ap, _∙_}
 use Prim.Native.Nat.{ℕ, _+_, _-_, _*_, _/_, _%_, _^_, _≤_, _<_}
-use native.Mathlib.Nat.{add-mul, one-mul, mul-le-mul-right, div-eq-of-lt, mod-eq-of-lt}
+use native.Mathlib.Nat.{div-eq-of-lt, mod-eq-of-lt}
 use native.Mathlib.Decide.{ℕ-discrete}
 use native.Mathlib.Omega.{arith}
 use borrow.Author.Tests.{eq-eqb, ne-eqb}
@@ -11,14 +11,14 @@ use lib.ListN.{take, drop}
 use Rattle.format.specs.declared.Pixel.{Pixel}
 use Rattle.format.specs.Byte.{add}
 use Rattle.format.specs.Pixel.{each}
-use Rattle.format.specs.Picture.{Picture, pixels, block, ceiling, written, inOrder}
+use Rattle.format.specs.Picture.{Picture, pixels, block, ceiling}
 use Rattle.format.specs.Predictor.{gained, predict, predicted, mode, left, top, topRight, topLeft}
 use Rattle.format.proofs.Predictor.{row-above}
-use Rattle.pixel.specs.Cells.{pixelCells, Rule, run}
-use Rattle.pixel.specs.Sizes.{Blocked, Holds}
+use Rattle.pixel.specs.Cells.{pixelCells, run}
+use Rattle.format.specs.Sizes.{Blocked, Holds}
 use Rattle.pixel.proofs.Blocks.{row-there, block-there, data-there}
-use Rattle.pixel.proofs.Cells.{pixel-lawful, run-same, run-next}
-use Rattle.pixel.proofs.Front.{pixels-run}
+use Rattle.pixel.proofs.Cells.{pixel-lawful, run-same}
+use Rattle.pixel.proofs.Rows.{run-then}
 use Rattle.pixel.proofs.Part.{back, part-run, pixel-part}
 use Rattle.predictor.specs.Row.{around, gains, rowPredicted}
 use Rattle.predictor.proofs.Blocks.{row-first}
@@ -112,16 +112,14 @@ module _ (w h bits y : ℕ) (bs xs : List ℕ) (room : Holds w h xs) (blocked : 
 
   pub row-back : (bx k m : ℕ) → bx ≡ ceiling w (2 ^ bits) → k ≡ 8 * w → m ≡ 4 * bx
       → back (4 * ((y - 1) * w)) k xs
-      (run pixelCells (gains (rowPredicted w bits (pixels (take m (drop (4 * (y / 2 ^ bits * bx)) bs))))) w (2 * w - w) (take k (drop (4 * ((y - 1) * w)) xs)))
-      ≡ run pixelCells (gained w bits (pixels bs)) (y * w) ((y + 1) * w - y * w) xs
+      (run pixelCells (gains (rowPredicted w bits (pixels (take m (drop (4 * (y / 2 ^ bits * bx)) bs))))) w w (take k (drop (4 * ((y - 1) * w)) xs)))
+      ≡ run pixelCells (gained w bits (pixels bs)) (y * w) w xs
   unfolding gained
   row-back bx k m e f g =
       let up = row-above w y (λ z. omega arith) in
       let k2 : k ≡ 4 * (w + w) = omega arith in
-      let n : 2 * w - w ≡ w = omega arith in
-      let n2 : (y + 1) * w - y * w ≡ w = rw (add-mul, one-mul) (omega arith) in
       let d = pixels (take m (drop (4 * (y / 2 ^ bits * ceiling w (2 ^ bits))) bs)) in
-      rw (e, k2, n, n2, ← up)
+      rw (e, k2, ← up)
       (part-run (gained w bits (pixels bs)) (gains (rowPredicted w bits d)) ((y - 1) * w) (w + w) w xs (omega (arith, pair-there w h y off below)) w (omega arith)
       (λ p q i l u agree. seen d p q i l u agree (block-part m (g ∙ ap (λ (z : ℕ). 4 * z) e))))
     where
@@ -130,30 +128,18 @@ module _ (w h bits y : ℕ) (bs xs : List ℕ) (room : Holds w h xs) (blocked : 
           → gained w bits (pixels bs) p ((y - 1) * w + i) ≡ gains (rowPredicted w bits d) q i
       seen d p q i l u agree blocks = cc (agree i u, row-predicted w bits y (pixels bs) d off blocks p q agree i l u)
 
--- ---- the loop over rows
+-- ---- row 0
 
-pub rows-le : (w x y : ℕ) → x ≤ y → x * w ≤ y * w
-rows-le w x y h = mul-le-mul-right w h
-
--- row 0: the first pixel, then the others
+-- the first pixel, then the others
 pub first-row : (w bits : ℕ) (D : Picture) (xs ys zs : List ℕ) → ys ≡ run pixelCells (gains (around 0 w)) 0 (1 - 0) xs → zs ≡ run pixelCells (gains (around 1 w)) 1 (w - 1) ys → 1 ≤ w
-    → zs ≡ run pixelCells (gained w bits D) 0 (w - 0) xs
+    → zs ≡ run pixelCells (gained w bits D) 0 w xs
 unfolding gained
 first-row w bits D xs ys zs e f h =
-    run-next pixelCells (gained w bits D) 0 1 w xs ys zs (omega arith) h
+    run-then (gained w bits D) 1 (w - 1) w xs ys zs
     (e
     ∙ run-same pixelCells pixel-lawful (gains (around 0 w)) (gained w bits D) 0 xs (1 - 0)
     (λ i l u vs a b. let z : i ≡ 0 = omega arith in rw z (ap (each add (pixels vs 0)) (sym (predicted-first w bits D (pixels vs) h)))))
     (f
     ∙ run-same pixelCells pixel-lawful (gains (around 1 w)) (gained w bits D) 1 ys (w - 1)
     (λ i l u vs a b. ap (each add (pixels vs i)) (sym (predicted-left w bits D (pixels vs) i l (omega arith)))))
-
-pub row-zero : (w : ℕ) → (0 * w ≡ 0) × ((0 + 1) * w - 0 * w ≡ w - 0)
-row-zero w = (omega arith, omega arith)
-
--- all rows
-pub whole : (h : Rule Pixel) (w rows y : ℕ) (xs ys : List ℕ) → ys ≡ run pixelCells h (0 * w) (y * w - 0 * w) xs → y ≡ rows → Holds w rows xs → ys ≡ written (rows * w) (inOrder h (rows * w) (pixels xs)) xs
-whole h w rows y xs ys e q room =
-    let z : 0 * w ≡ 0 = omega arith in
-    let n : y * w - 0 * w ≡ rows * w = rw q (omega arith) in
-    e ∙ rw (n, z) (pixels-run h xs (rows * w) room)
+    (omega arith)

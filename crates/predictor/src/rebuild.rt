@@ -9,12 +9,12 @@ ghost use lib.ListN.{length};
 ghost use Rattle.format.specs.Picture.{pixels, written};
 ghost use Rattle.format.specs.Predictor.{gained, fromResiduals};
 ghost use Rattle.pixel.specs.Cells.{pixelCells, run};
-ghost use Rattle.pixel.specs.Sizes.{Sized, Holds, Blocked};
+ghost use Rattle.format.specs.Sizes.{Sized, Holds, Blocked};
 
 // Row 0: the first pixel as mode 0, the rest as L.
 fn rebuild_first_row(image: &mut [u8], width: usize, bits: u32, blocks: &[u8])
     requires { ⌜ (1 ≤ width) × (4 * width ≤ length (now image)) ⌝ }
-    ensures { λ _. ⌜ now (image .exit) ≡ run pixelCells (gained width bits (pixels (now (blocks .entry)))) 0 (width - 0) (now (image .entry)) ⌝ }
+    ensures { λ _. ⌜ now (image .exit) ≡ run pixelCells (gained width bits (pixels (now (blocks .entry)))) 0 width (now (image .entry)) ⌝ }
 {
     apply_predictor_transform_0(image, width, 0, 1);
     apply_predictor_transform_1(image, width, 1, width);
@@ -33,7 +33,7 @@ fn rebuild_row_below(
     requires { ⌜ Holds width height (now image) ⌝ }
     requires { ⌜ Blocked width height bits (now blocks) ⌝ }
     requires { ⌜ (1 ≤ y) × (y < height) ⌝ }
-    ensures { λ _. ⌜ now (image .exit) ≡ run pixelCells (gained width bits (pixels (now (blocks .entry)))) (y * width) ((y + 1) * width - y * width) (now (image .entry)) ⌝ }
+    ensures { λ _. ⌜ now (image .exit) ≡ run pixelCells (gained width bits (pixels (now (blocks .entry)))) (y * width) width (now (image .entry)) ⌝ }
 {
     let bx = subsample_size(width, bits);
     let above = y - 1;
@@ -57,7 +57,7 @@ pub fn rebuild_row_at(
     requires { ⌜ Holds width height (now image) ⌝ }
     requires { ⌜ Blocked width height bits (now blocks) ⌝ }
     requires { ⌜ y < height ⌝ }
-    ensures { λ _. ⌜ now (image .exit) ≡ run pixelCells (gained width bits (pixels (now (blocks .entry)))) (y * width) ((y + 1) * width - y * width) (now (image .entry)) ⌝ }
+    ensures { λ _. ⌜ now (image .exit) ≡ run pixelCells (gained width bits (pixels (now (blocks .entry)))) (y * width) width (now (image .entry)) ⌝ }
 {
     if y == 0 {
         rebuild_first_row(image, width, bits, blocks);

@@ -11,7 +11,7 @@ ghost use Prim.Native.Nat.{_+_, _-_, _*_, _/_, _^_, _<_, _≤_};
 ghost use lib.ListN.{length};
 ghost use Rattle.format.specs.Picture.{pixels};
 ghost use Rattle.pixel.specs.Cells.{pixelCells, run, given};
-ghost use Rattle.pixel.specs.Sizes.{BlockedRow, BlockEnd};
+ghost use Rattle.pixel.specs.Blocks.{BlockedRow, BlockEnd};
 ghost use Rattle.predictor.specs.Row.{gains, residual, rowPredicted};
 
 // The mode of column x.
@@ -40,7 +40,7 @@ fn rebuild_block(rows: &mut [u8], width: usize, bits: u32, blocks: &[u8], x: usi
 pub fn rebuild_row(rows: &mut [u8], width: usize, bits: u32, blocks: &[u8])
     requires { ⌜ BlockedRow width bits (now blocks) ⌝ }
     requires { ⌜ length (now rows) ≡ 8 * width ⌝ }
-    ensures { λ _. ⌜ now (rows .exit) ≡ run pixelCells (gains (rowPredicted width bits (pixels (now (blocks .entry))))) width (2 * width - width) (now (rows .entry)) ⌝ }
+    ensures { λ _. ⌜ now (rows .exit) ≡ run pixelCells (gains (rowPredicted width bits (pixels (now (blocks .entry))))) width width (now (rows .entry)) ⌝ }
 {
     let first = add_pixels(pixel_at(rows, width), pixel_at(rows, 0));
     put_pixel(rows, width, first);
@@ -74,7 +74,7 @@ fn store_block(
 pub fn store_row(rows: &[u8], out: &mut [u8], width: usize, bits: u32, blocks: &[u8])
     requires { ⌜ BlockedRow width bits (now blocks) ⌝ }
     requires { ⌜ (length (now rows) ≡ 8 * width) × (length (now out) ≡ 4 * width) ⌝ }
-    ensures { λ _. ⌜ now (out .exit) ≡ run pixelCells (given (residual (rowPredicted width bits (pixels (now (blocks .entry)))) width (pixels (now (rows .entry))))) 0 (width - 0) (now (out .entry)) ⌝ }
+    ensures { λ _. ⌜ now (out .exit) ≡ run pixelCells (given (residual (rowPredicted width bits (pixels (now (blocks .entry)))) width (pixels (now (rows .entry))))) 0 width (now (out .entry)) ⌝ }
 {
     let first = subtract_pixels(pixel_at(rows, width), pixel_at(rows, 0));
     put_pixel(out, 0, first);

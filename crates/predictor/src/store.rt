@@ -11,7 +11,7 @@ ghost use lib.ListN.{length};
 ghost use Rattle.format.specs.Picture.{pixels, written};
 ghost use Rattle.format.specs.Predictor.{residuals};
 ghost use Rattle.pixel.specs.Cells.{pixelCells, run, given};
-ghost use Rattle.pixel.specs.Sizes.{Sized, Holds, Blocked};
+ghost use Rattle.format.specs.Sizes.{Sized, Holds, Blocked};
 ghost use Rattle.predictor.specs.Row.{leftResidual};
 
 fn left_residual(picture: &[u8], x: usize) -> Pixel
@@ -37,7 +37,7 @@ fn store_left(picture: &[u8], strip: &mut [u8], width: usize)
 // Row 0: the first pixel loses black.
 fn store_first_row(picture: &[u8], strip: &mut [u8], width: usize, bits: u32, blocks: &[u8])
     requires { ⌜ (1 ≤ width) × (4 * width ≤ length (now picture)) × (4 * width ≤ length (now strip)) ⌝ }
-    ensures { λ _. ⌜ now (strip .exit) ≡ run pixelCells (given (residuals width bits (pixels (now (blocks .entry))) (pixels (now (picture .entry))))) 0 (width - 0) (now (strip .entry)) ⌝ }
+    ensures { λ _. ⌜ now (strip .exit) ≡ run pixelCells (given (residuals width bits (pixels (now (blocks .entry))) (pixels (now (picture .entry))))) 0 width (now (strip .entry)) ⌝ }
 {
     let black = Pixel {
         red: 0,
@@ -64,7 +64,7 @@ fn store_row_below(
     requires { ⌜ Holds width height (now picture) × Holds width height (now strip) ⌝ }
     requires { ⌜ Blocked width height bits (now blocks) ⌝ }
     requires { ⌜ (1 ≤ y) × (y < height) ⌝ }
-    ensures { λ _. ⌜ now (strip .exit) ≡ run pixelCells (given (residuals width bits (pixels (now (blocks .entry))) (pixels (now (picture .entry))))) (y * width) ((y + 1) * width - y * width) (now (strip .entry)) ⌝ }
+    ensures { λ _. ⌜ now (strip .exit) ≡ run pixelCells (given (residuals width bits (pixels (now (blocks .entry))) (pixels (now (picture .entry))))) (y * width) width (now (strip .entry)) ⌝ }
 {
     let bx = subsample_size(width, bits);
     let above = y - 1;
@@ -96,7 +96,7 @@ pub fn store_row_at(
     requires { ⌜ Holds width height (now picture) × Holds width height (now strip) ⌝ }
     requires { ⌜ Blocked width height bits (now blocks) ⌝ }
     requires { ⌜ y < height ⌝ }
-    ensures { λ _. ⌜ now (strip .exit) ≡ run pixelCells (given (residuals width bits (pixels (now (blocks .entry))) (pixels (now (picture .entry))))) (y * width) ((y + 1) * width - y * width) (now (strip .entry)) ⌝ }
+    ensures { λ _. ⌜ now (strip .exit) ≡ run pixelCells (given (residuals width bits (pixels (now (blocks .entry))) (pixels (now (picture .entry))))) (y * width) width (now (strip .entry)) ⌝ }
 {
     if y == 0 {
         store_first_row(picture, strip, width, bits, blocks);

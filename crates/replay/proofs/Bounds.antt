@@ -7,7 +7,7 @@ use native.Mathlib.Omega.{arith}
 use lib.ListN.{length}
 use lib.Pow.{pow-mono}
 use Rattle.format.specs.Picture.{ceiling}
-use Rattle.pixel.specs.Sizes.{Blocked}
+use Rattle.format.specs.Sizes.{Blocked}
 
 pub product-small : (x y : ℕ) → x ≤ 16896 → y ≤ 16896 → x * y ≤ 16896 * 16896
 product-small x y h k = mul-le-mul h k

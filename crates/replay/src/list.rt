@@ -12,7 +12,7 @@ ghost use mathlib.Core.Path.{_≡_};
 ghost use mathlib.Core.Bool.{false};
 ghost use Prim.Native.Nat.{_*_, _≤_};
 ghost use lib.ListN.{length};
-ghost use Rattle.pixel.specs.Sizes.{Sized, Holds};
+ghost use Rattle.format.specs.Sizes.{Sized, Holds};
 
 pub enum Next {
     Compared {

@@ -6,7 +6,7 @@ ghost use mathlib.Core.Path.{_≡_};
 ghost use Prim.Native.Nat.{_*_, _^_, _≤_};
 ghost use Rattle.format.specs.Picture.{ceiling};
 ghost use Rattle.format.specs.ColorTable.{packedWidth};
-ghost use Rattle.pixel.specs.Sizes.{Sized};
+ghost use Rattle.format.specs.Sizes.{Sized};
 
 // The bytes of a picture, or 0 where a side is out of bounds.
 pub fn picture_len(width: usize, height: usize) -> usize

@@ -16,7 +16,7 @@ use predictor::rebuild::apply_predictor_transform;
 use predictor::store::store_predictor_transform;
 ghost use Prim.Native.Nat.{_*_, _≤_};
 ghost use lib.ListN.{length};
-ghost use Rattle.pixel.specs.Sizes.{Sized, Holds, Blocked};
+ghost use Rattle.format.specs.Sizes.{Sized, Holds, Blocked};
 
 // Whether the output is the oracle's, whether undoing gives the input, and whether storing refused.
 pub enum Outcome {

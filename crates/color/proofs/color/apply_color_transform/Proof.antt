@@ -8,7 +8,8 @@ use Rattle.format.specs.Picture.{pixels}
 use Rattle.format.specs.Color.{inverseColor, colorRebuilt}
 use Rattle.color.specs.Row.{inPlace, pointwise, inPicture}
 use Rattle.pixel.specs.Cells.{pixelCells, run}
-use Rattle.color.proofs.Pointwise.{no-rows, row-more, finished}
+use Rattle.pixel.proofs.Rows.{no-rows, row-more}
+use Rattle.color.proofs.Pointwise.{finished}
 use Rattle.color.proofs.color.apply_color_transform.Statement.{statement}
 use Rattle.color.proofs.color.apply_color_transform.Tie as tie
 

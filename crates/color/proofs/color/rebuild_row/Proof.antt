@@ -10,7 +10,7 @@ use Rattle.pixel.specs.Cells.{pixelCells, run}
 use Rattle.color.specs.Row.{inPlace, pointwise, inRow}
 use Rattle.pixel.proofs.Blocks.{block-there}
 use Rattle.color.proofs.Blocks.{block-more}
-use Rattle.color.proofs.Pointwise.{run-zero, run-all}
+use Rattle.pixel.proofs.Rows.{run-zero, run-all}
 use Rattle.color.proofs.color.rebuild_row.Statement.{statement}
 use Rattle.color.proofs.color.rebuild_row.Tie as tie
 

@@ -7,7 +7,8 @@ use lib.ListN.{length}
 use Rattle.format.specs.SubtractGreen.{addGreen, greenRebuilt}
 use Rattle.color.specs.Row.{inPlace, pointwise, everywhere}
 use Rattle.pixel.specs.Cells.{pixelCells, run}
-use Rattle.color.proofs.Pointwise.{no-rows, row-more, finished}
+use Rattle.pixel.proofs.Rows.{no-rows, row-more}
+use Rattle.color.proofs.Pointwise.{finished}
 use Rattle.color.proofs.subtract_green.apply_subtract_green_transform.Statement.{statement}
 use Rattle.color.proofs.subtract_green.apply_subtract_green_transform.Tie as tie
 

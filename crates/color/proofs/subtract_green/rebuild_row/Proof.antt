@@ -8,7 +8,8 @@ use Rattle.format.specs.SubtractGreen.{addGreen}
 use Rattle.pixel.specs.Cells.{pixelCells, run}
 use Rattle.pixel.proofs.Cells.{run-none}
 use Rattle.color.specs.Row.{inPlace, pointwise, everywhere}
-use Rattle.color.proofs.Pointwise.{turn, run-all}
+use Rattle.pixel.proofs.Rows.{run-all}
+use Rattle.color.proofs.Pointwise.{turn}
 use Rattle.color.proofs.subtract_green.rebuild_row.Statement.{statement}
 use Rattle.color.proofs.subtract_green.rebuild_row.Tie as tie
 

@@ -8,7 +8,8 @@ use Rattle.format.specs.Picture.{pixels}
 use Rattle.format.specs.SubtractGreen.{subtractGreen, greenStored}
 use Rattle.color.specs.Row.{outOf, pointwise, everywhere}
 use Rattle.pixel.specs.Cells.{pixelCells, run}
-use Rattle.color.proofs.Pointwise.{no-rows, row-more, finished}
+use Rattle.pixel.proofs.Rows.{no-rows, row-more}
+use Rattle.color.proofs.Pointwise.{finished}
 use Rattle.color.proofs.subtract_green.store_subtract_green_transform.Statement.{statement}
 use Rattle.color.proofs.subtract_green.store_subtract_green_transform.Tie as tie
 

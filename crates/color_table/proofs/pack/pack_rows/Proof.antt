@@ -9,7 +9,9 @@ use Rattle.format.specs.ColorTable.{packedWidth, packed as packedOf}
 use Rattle.pixel.specs.Cells.{pixelCells, run, given}
 use Rattle.color_table.specs.Pack.{Hints}
 use Rattle.pixel.proofs.Given.{front-done}
-use Rattle.color_table.proofs.Strip.{row-inside-picture, accepted-row, strip-none, strip-more}
+use Rattle.pixel.proofs.Blocks.{row-there}
+use Rattle.pixel.proofs.Rows.{no-rows, row-more}
+use Rattle.color_table.proofs.Strip.{accepted-row}
 use Rattle.color_table.proofs.pack.pack_rows.Statement.{statement}
 use Rattle.color_table.proofs.pack.pack_rows.Tie as tie
 
@@ -29,14 +31,14 @@ pack-rows-spec =
     Inv-loop
     μ-loop
     (λ c κs. omega arith)
-    (λ c. let s = c .before .before .before .before .before in (omega arith, refl, refl, c .packed-width .ensures, strip-none _ _ _, s .pre .1 .1 .0))
+    (λ c. let s = c .before .before .before .before .before in (omega arith, refl, refl, c .packed-width .ensures, no-rows _ _ _, s .pre .1 .1 .0))
     (λ c κs.
     let s = c .before .before .before .before .before .before .before .before .before in
     let l = c .before .before .before .loop in
     let m = c .before .before .before .before .packed-width .result .0 in
     let f = s .pre .1 .0 in
-    let a = row-inside-picture (l .y) (s .args .height) (s .args .width) (omega arith) in
-    let b = row-inside-picture (l .y) (s .args .height) m (omega arith) in
+    let a = row-there (s .args .width) (s .args .height) (l .y) (omega arith) in
+    let b = row-there m (s .args .height) (l .y) (omega arith) in
     let z = ap (λ (d : ℕ). s .args .height * d) (l .inv .3) in (
       (f .0, f .1, f .2, s .pre .0 .wide, s .pre .0 .narrow, l .inv .3, omega arith, omega arith),
       (l .inv .5, accepted-row (s .args .size) (s .args .width) (s .args .height) (l .y) _ _ (s .pre .1 .1 .1) (omega arith)),
@@ -50,7 +52,7 @@ pack-rows-spec =
       p .kept .1 .0 ∙ l .inv .1,
       p .kept .1 .1 .1 .1 .1 .1 .1 .0 ∙ l .inv .2,
       l .inv .3,
-      strip-more _ _ _ _ _ _ (l .inv .4) (p .ensures .0),
+      row-more _ _ _ _ _ _ (l .inv .4) (p .ensures .0),
       p .ensures .1,
     ))
     (λ c. search needs)

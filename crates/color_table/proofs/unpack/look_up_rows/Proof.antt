@@ -8,7 +8,8 @@ use Rattle.format.specs.Picture.{Picture, pixels}
 use Rattle.pixel.specs.Cells.{pixelCells, run, given}
 use Rattle.format.specs.ColorTable.{entry, unpacked, packedWidth}
 use Rattle.color_table.specs.Table.{TableOf}
-use Rattle.color_table.proofs.Looked.{looked-none, looked-more, looked-done}
+use Rattle.pixel.proofs.Rows.{no-rows}
+use Rattle.color_table.proofs.Looked.{looked-more}
 use Rattle.color_table.proofs.Rows.{row-room}
 use Rattle.color_table.proofs.unpack.look_up_rows.Statement.{statement}
 use Rattle.color_table.proofs.unpack.look_up_rows.Tie as tie
@@ -29,7 +30,7 @@ look-up-rows-spec =
     μ-loop
     (λ c κs. search needs)
     (λ c κs. omega arith)
-    (λ c. (omega arith, refl, c .packed-width .ensures, (λ e h. looked-none _ _ _)))
+    (λ c. (omega arith, refl, c .packed-width .ensures, (λ e h. no-rows _ _ _)))
     (λ c κs.
     let l = c .before .before .before .before .loop in
     let s = c .before .before .before .before .before .before .before .before in
@@ -46,4 +47,6 @@ look-up-rows-spec =
       (λ e h. looked-more _ _ e (s .pre .0 .wide) (s .pre .1 .1) _ _ _ _ (l .inv .3 e h) (p .ensures e h (λ k. absurd (omega arith)))),
     ))
     (λ c. search needs)
-    (λ c e h. looked-done _ _ _ _ _ _ (c .before .loop .inv .3 e h) (omega arith) (omega arith)))
+    (λ c e h.
+    let y : c .before .loop .y ≡ c .before .before .before .before .before .args .height = omega arith in
+    rw y at (c .before .loop .inv .3 e h)))

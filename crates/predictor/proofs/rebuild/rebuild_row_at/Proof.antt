@@ -1,8 +1,8 @@
 -- `rebuild_row_at` meets its contract: row 0 by its own rule, the others by theirs.
+use native.Mathlib.Nat.{zero-mul}
 use native.Mathlib.Omega.{arith}
 use borrow.Author.Needs.{needs}
 use Rattle.pixel.proofs.Blocks.{row-there}
-use Rattle.predictor.proofs.Rows.{row-zero}
 use Rattle.predictor.proofs.rebuild.rebuild_row_at.Statement.{statement}
 use Rattle.predictor.proofs.rebuild.rebuild_row_at.Tie as tie
 
@@ -14,7 +14,7 @@ rebuild-row-at-spec =
     (λ c κs. search needs)
     (λ c. search needs)
     (λ c.
-    let z = row-zero (c .before .before .before .before .before .before .before .args .width) in
-    rw (c .before .before .before .before .if1 .taken, z .1, z .0) (c .before .before .rebuild-first-row .ensures))
+    let z = zero-mul (c .before .before .before .before .before .before .before .args .width) in
+    rw (c .before .before .before .before .if1 .taken, z) (c .before .before .rebuild-first-row .ensures))
     (λ c. search needs)
     (λ c. search needs))

@@ -48,5 +48,5 @@ rebuild-row-spec =
     let a = p .before .before .add-pixels .ensures in
     let s = p .before .before .before .before .before .before .before .before .before .args in
     let e : l .x ≡ s .width = omega arith in
-    let w : 2 * s .width ≡ s .width + l .x = omega arith in
-    rw w (run-next _ _ _ _ _ _ _ _ (omega arith) (omega arith) (run-first _ _ _ _ _ _ (p .put-pixel .ensures) (a ∙ cc)) (l .inv .3))))
+    let w : s .width + l .x - s .width ≡ s .width = omega arith in
+    rw w at (run-next _ _ _ _ _ _ _ _ (omega arith) (omega arith) (run-first _ _ _ _ _ _ (p .put-pixel .ensures) (a ∙ cc)) (l .inv .3))))

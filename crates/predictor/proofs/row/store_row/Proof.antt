@@ -7,6 +7,7 @@ use lib.ListN.{length}
 use Rattle.format.specs.Picture.{pixels}
 use Rattle.pixel.specs.Cells.{pixelCells, run, given}
 use Rattle.pixel.proofs.Cells.{run-none, run-next}
+use Rattle.pixel.proofs.Rows.{run-then}
 use Rattle.predictor.specs.Row.{residual, rowPredicted}
 use Rattle.predictor.proofs.Blocks.{given-first}
 use Rattle.predictor.proofs.row.store_row.Statement.{statement}
@@ -47,6 +48,7 @@ store-row-spec =
     let p = c .before .before .before .before in
     let a = p .before .before .before .before .before .before .before .before .args in
     let e : l .x ≡ a .width = omega arith in
-    run-next _ _ _ _ _ _ _ _ (omega arith) (omega arith)
+    run-then _ _ _ _ _ _ _
     (given-first (a .width) (a .bits) (pixels (a .blocks .now)) (pixels (a .rows .now)) _ _ _ (p .put-pixel .ensures) (p .before .before .subtract-pixels .ensures ∙ cc))
-    (rw e at (l .inv .3))))
+    (rw e at (l .inv .3))
+    (omega arith)))

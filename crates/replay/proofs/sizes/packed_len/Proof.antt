@@ -4,7 +4,7 @@ use Prim.Native.Nat.{ℕ, _*_, _≤_}
 use native.Mathlib.Omega.{arith}
 use borrow.Author.Needs.{needs}
 use Rattle.format.specs.ColorTable.{packedWidth}
-use Rattle.pixel.specs.Sizes.{Sized}
+use Rattle.format.specs.Sizes.{Sized}
 use Rattle.color_table.proofs.Rows.{rows-fewer}
 use Rattle.replay.proofs.Bounds.{product-small}
 use Rattle.replay.proofs.sizes.packed_len.Statement.{statement}

@@ -1,7 +1,7 @@
 -- `replay_blocks` is safe: the length of the blocks' data was tested.
 use native.Mathlib.Omega.{arith}
 use borrow.Author.Needs.{needs}
-use Rattle.pixel.specs.Sizes.{Blocked}
+use Rattle.format.specs.Sizes.{Blocked}
 use Rattle.replay.proofs.Bounds.{blocked}
 use Rattle.replay.proofs.transforms.replay_blocks.Statement.{statement}
 use Rattle.replay.proofs.transforms.replay_blocks.Tie as tie

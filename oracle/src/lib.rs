@@ -20,4 +20,7 @@ mod reference;
 pub use reference::{color, color_map, color_table, predictor, subtract_green};
 
 #[cfg(rust_source)]
+mod cases;
+
+#[cfg(rust_source)]
 pub mod list;

@@ -40,7 +40,7 @@ pub fn color_map(bytes: &mut [u8]) {
     adjust_color_map(bytes);
 }
 
-fn picture_len(width: u16, height: u16) -> usize {
+pub fn picture_len(width: u16, height: u16) -> usize {
     4 * usize::from(width) * usize::from(height)
 }
 

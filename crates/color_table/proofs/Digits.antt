@@ -58,7 +58,7 @@ small-byte u n m b h pos l q = let p = pow-le-pow-right pos l in omega arith
 pub small-product : (b u : ℕ) → b < 256 → u ≤ 256 → b * u ≤ 65536
 small-product b u h l = mul-le-mul {n₁ = b} {m₁ = u} {n₂ = 256} {m₂ = 256} (omega arith) l
 
--- ---- records
+-- records
 
 -- record j of a row by itself
 pub packed-row : (w size : ℕ) (e f : Picture) (j : ℕ) → j < packedWidth size w → pixel 0 (digits (range (perPixel size)) (perPixel size) (rowIndices w size e f (j * perPixel size))) 0 255 ≡ packed w size e f j

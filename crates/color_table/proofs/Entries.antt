@@ -12,7 +12,7 @@ use Rattle.format.specs.declared.Pixel.{Pixel}
 use Rattle.format.specs.Pixel.{pixel, clear}
 use Rattle.format.specs.Picture.{Picture, byteAt}
 use Rattle.format.specs.ColorTable.{entry}
-use Rattle.color_table.specs.Table.{entryIn, firstIn, secondIn, pairBytes, TableOf, PairsOf}
+use Rattle.color_table.specs.Table.{entryIn, secondIn, pairBytes, TableOf, PairsOf}
 
 module _ (u : ℕ) (least : 1 ≤ u) (most : u ≤ 16) where
   pub square-small : u * u ≤ 256
@@ -27,7 +27,7 @@ module _ (u : ℕ) (least : 1 ≤ u) (most : u ≤ 16) where
 pub square-some : (u : ℕ) → 1 ≤ u → 0 < u * u
 square-some u h = mul-le-mul h h
 
--- ---- no entries
+-- no entries
 
 pub no-entry : (i : ℕ) → entryIn (replicate 256 (0 ∷ 0 ∷ 0 ∷ 0 ∷ [])) i ≡ clear
 unfolding entryIn
@@ -44,7 +44,7 @@ no-entry i = go (decLt i 256)
     go (yes l) = row (0 ∷ 0 ∷ 0 ∷ 0 ∷ []) (getD-replicate 256 i (0 ∷ 0 ∷ 0 ∷ 0 ∷ []) [] l) (refl, refl, refl, refl)
     go (no n) = row [] (List·getD-eq-default t [] {n = i} (omega arith)) (refl, refl, refl, refl)
 
--- ---- one row replaced
+-- one row replaced
 
 abbrev pub entryBytes : Pixel → List ℕ
 entryBytes v = v .red ∷ v .green ∷ v .blue ∷ v .alpha ∷ []
@@ -76,11 +76,11 @@ padded-whole size i e t h z q = record { at = λ j l. go j (decLt j size) }
     go j (yes k) = rw (lt-ltb j size k) (h j (omega arith))
     go j (no k) = let g : size ≤ j = omega arith in rw (le-ltb j size g) (z j (omega arith))
 
--- ---- pairs
+-- pairs
 
 -- the first k pairs are there
 pub record Pairs (u k : ℕ) (t p : List (List ℕ)) : Type 0 where
-  pub first : (j : ℕ) → j < k → firstIn p j ≡ entryIn t (j % u)
+  pub first : (j : ℕ) → j < k → entryIn p j ≡ entryIn t (j % u)
   pub second : (j : ℕ) → j < k → secondIn p j ≡ entryIn t (j / u)
 
 pub pairs-none : (u : ℕ) (t p : List (List ℕ)) → Pairs u 0 t p
@@ -90,13 +90,13 @@ pairs-none u t p = record { first = λ j l. absurd (no j l); second = λ j l. ab
     no j l = omega arith
 
 pub pairs-more : (u k : ℕ) (t p : List (List ℕ)) (r : List ℕ) → Pairs u k t p → r ≡ pairBytes (entryIn t (k % u)) (entryIn t (k / u)) → k < length p → Pairs u (k + 1) t (set p k r)
-unfolding firstIn secondIn
+unfolding entryIn secondIn
 pairs-more u k t p r h e l = record { first = λ j m. one j m (ℕ-discrete j k); second = λ j m. two j m (ℕ-discrete j k) }
   where
     same : getD (set p k r) k [] ≡ pairBytes (entryIn t (k % u)) (entryIn t (k / u))
     same = getD-set-same p k r [] l ∙ e
 
-    one : (j : ℕ) → j < k + 1 → Dec (j ≡ k) → firstIn (set p k r) j ≡ entryIn t (j % u)
+    one : (j : ℕ) → j < k + 1 → Dec (j ≡ k) → entryIn (set p k r) j ≡ entryIn t (j % u)
     one j m (yes q) = rw q (let s = same in cc)
     one j m (no n) = let o = getD-set-other p k j r [] n in let f = h .first j (omega arith) in cc
 

@@ -19,7 +19,7 @@ use Rattle.format.proofs.Pixels.{equal-true}
 use Rattle.format.proofs.ColorTable.{lowest-hit, lowest-least}
 use Rattle.color_table.specs.Pack.{Hints, rowIndices}
 
--- ---- looking at each entry
+-- looking at each entry
 
 module _ (e : Picture) (v : Pixel) (size : ℕ) where
   pub scan-none : indexOf size e v ≡ lowest e v (size - 0) 0
@@ -44,7 +44,7 @@ module _ (e : Picture) (v : Pixel) (size : ℕ) where
   unfolding lowest
   scan-end i h q = let k : size - i ≡ 0 = omega arith in sym (h ∙ ap (λ (n : ℕ). lowest e v n i) k ∙ q)
 
--- ---- hints
+-- hints
 
 pub zeros : (n s : ℕ) → byteAt (replicate n 0) s ≡ 0
 zeros n s = go (decLt s n)
@@ -95,7 +95,7 @@ module _ (size : ℕ) (e : Picture) where
           rw (p, List·getD-eq-default (set hs s k) 0 {n = s} (omega arith)) (rw d at (h .least s))
       least j (no u) (no n) = rw (getD-set-other hs s j k 0 n) (h .least j)
 
--- ---- acceptance
+-- acceptance
 
 module _ (size : ℕ) (e f : Picture) where
   pub accepted-more : (i k : ℕ) (u : Pixel) → accepted size e i f ≡ true → u ≡ f i → k ≡ indexOf size e u → k < size → accepted size e (i + 1) f ≡ true

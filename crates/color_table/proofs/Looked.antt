@@ -76,7 +76,7 @@ looked-stays size w y l =
     let k : w + 1 - 1 ≡ w = omega arith in
     rw (one-index size l, div-one (w + 1 - 1), k) (omega arith)
 
--- ---- the rows of the picture
+-- the rows of the picture
 
 module _ (w size : ℕ) (e : Picture) (some : 1 ≤ w) (l : 16 < size) where
   -- a pixel is made of the one at its place

@@ -13,11 +13,11 @@ use Rattle.format.proofs.ColorTable.{perPixel-pos, column-packed, ceiling-pos}
 use Rattle.pixel.specs.Cells.{pixelCells, putPixel, run, given}
 use Rattle.pixel.proofs.Cells.{pixel-lawful, run-before}
 use Rattle.pixel.proofs.Part.{back, part-run, pixel-part}
-use Rattle.color_table.specs.Table.{entryIn, firstIn, secondIn, TableOf, PairsOf}
+use Rattle.color_table.specs.Table.{entryIn, secondIn, TableOf, PairsOf}
 use Rattle.color_table.specs.Unpack.{spread, rowOf}
 use Rattle.pixel.proofs.Given.{given-put, given-same, given-join}
 
--- ---- digits of a byte
+-- digits of a byte
 
 pub digit-first : (u b : ℕ) → b ≡ b / u ^ 0
 digit-first u b = sym (ap (λ (z : ℕ). b / z) (pow-zero u) ∙ div-one b)
@@ -46,7 +46,7 @@ module _ (u : ℕ) (e : Picture) (b₀ a : ℕ) where
 
   -- two indices more
   pub spread-pair : (k b : ℕ) (t : List (List ℕ)) (xs₀ xs ys : List ℕ) → PairsOf u e t → xs ≡ run pixelCells (given (spread u e b₀ a)) a k xs₀ → b ≡ b₀ / u ^ k
-      → ys ≡ putPixel (putPixel xs (a + k) (firstIn t (b % (u * u)))) (a + k + 1) (secondIn t (b % (u * u))) → 0 < u → 0 < u * u
+      → ys ≡ putPixel (putPixel xs (a + k) (entryIn t (b % (u * u)))) (a + k + 1) (secondIn t (b % (u * u))) → 0 < u → 0 < u * u
       → ys ≡ run pixelCells (given (spread u e b₀ a)) a (k + 2) xs₀
   spread-pair k b t xs₀ xs ys h r q p pos square =
       let c = b % (u * u) in
@@ -57,12 +57,12 @@ module _ (u : ℕ) (e : Picture) (b₀ a : ℕ) where
       let high : c / u ≡ b / u % u = ap (λ (z : ℕ). z / u) split ∙ digits-div (b / u % u) m in
       let i : a + k + 1 ≡ a + (k + 1) = omega arith in
       let n : k + 1 + 1 ≡ k + 2 = omega arith in
-      let one : putPixel xs (a + k) (firstIn t c) ≡ run pixelCells (given (spread u e b₀ a)) a (k + 1) xs₀ =
-      given-put (spread u e b₀ a) a k xs₀ xs (putPixel xs (a + k) (firstIn t c)) (firstIn t c) r (h .first c l ∙ ap e low ∙ spread-at b k q) refl in
+      let one : putPixel xs (a + k) (entryIn t c) ≡ run pixelCells (given (spread u e b₀ a)) a (k + 1) xs₀ =
+      given-put (spread u e b₀ a) a k xs₀ xs (putPixel xs (a + k) (entryIn t c)) (entryIn t c) r (h .first c l ∙ ap e low ∙ spread-at b k q) refl in
       let two : secondIn t c ≡ spread u e b₀ a (a + (k + 1)) = h .second c l ∙ ap e high ∙ spread-at (b / u) (k + 1) (digit-next u b₀ b k q) in
-      rw n at (given-put (spread u e b₀ a) a (k + 1) xs₀ (putPixel xs (a + k) (firstIn t c)) ys (secondIn t c) one two (rw i at p))
+      rw n at (given-put (spread u e b₀ a) a (k + 1) xs₀ (putPixel xs (a + k) (entryIn t c)) ys (secondIn t c) one two (rw i at p))
 
--- ---- packed pixels of a row
+-- packed pixels of a row
 
 -- packed pixel k gives the columns from k * n on
 pub row-spread : (u n : ℕ) (e g : Picture) (first k i : ℕ) → first + k * n ≤ i → i < first + k * n + n → spread u e (g k .green) (first + k * n) i ≡ rowOf u n e g first i
@@ -146,7 +146,7 @@ module _ (u n : ℕ) (e : Picture) (first : ℕ) (pos : 1 ≤ n) where
       let y : count * n - k * n ≡ count * n = omega arith in
       rw (x, y) at r
 
--- ---- columns
+-- columns
 
 -- the packed pixel that holds the last of w columns
 module _ (w n : ℕ) (some : 1 ≤ w) (pos : 1 ≤ n) where
@@ -173,7 +173,7 @@ module _ (w n : ℕ) (some : 1 ≤ w) (pos : 1 ≤ n) where
           let b = packed-before (n - 1) w h in
           omega arith
 
--- ---- a row in the picture
+-- a row in the picture
 
 pub rows-fewer : (w size y : ℕ) → 1 ≤ w → y * packedWidth size w ≤ y * w
 rows-fewer w size y some = mul-le-mul-left y (packed-fewer w (perPixel size) some (perPixel-pos size))
@@ -211,7 +211,7 @@ module _ (w size y : ℕ) (e : Picture) (xs : List ℕ) (some : 1 ≤ w) (fits :
       let t : ys ≡ run pixelCells (given G) first w (take (4 * m) (drop (4 * (y * c)) xs)) = rw bytes at r in
       rw (bytes, t) (rw from at (part-run (given (unpacked w size e (pixels xs))) (given G) (y * c) m first xs room w (omega arith) (λ f g i l u h. column c i p less l (omega arith) room)))
 
--- ---- the rows of the picture
+-- the rows of the picture
 
 pub row-room : (r h w m n : ℕ) → 4 * (h * w) ≤ m → n ≡ m → r < h → 4 * (r * w + w) ≤ n
 row-room r h w m n f q l = let a = mul-le-mul-right w l in let b = suc-mul r w in omega arith

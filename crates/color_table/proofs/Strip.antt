@@ -48,7 +48,7 @@ module _ (w size y : ℕ) (e : Picture) (xs : List ℕ) (k : ℕ) (bytes : k ≡
       (rw o at (part-run (given (packed w size e (pixels xs))) (given f) (y * c) c 0 ys (omega arith) c (omega arith)
       (λ g h i t u v. sym (rw (← p) at (packed-in w size y e (pixels (take k (drop (4 * (y * w)) xs))) (pixels xs) i (rw (← p) (omega arith)) row-pixel)))))
 
--- ---- all rows
+-- all rows
 
 pub accepted-row : (size w h y : ℕ) (e f : Picture) → accepted size e (h * w) f ≡ true → y < h → (x : ℕ) → x < w → hasEntry size e (f (y * w + x)) ≡ true
 accepted-row size w h y e f a l x u = every-at (h * w) (λ q. hasEntry size e (f q)) (y * w + x) (digits-lt l u) a

@@ -7,7 +7,7 @@ ghost use lib.ListN.{length};
 ghost use Rattle.format.specs.Pixel.{clear};
 ghost use Rattle.format.specs.Picture.{pixels, Picture};
 ghost use Rattle.format.specs.ColorTable.{perPixel, range, entry};
-ghost use Rattle.color_table.specs.Table.{entryIn, firstIn, secondIn, pairBytes, TableOf, PairsOf};
+ghost use Rattle.color_table.specs.Table.{entryIn, secondIn, pairBytes, TableOf, PairsOf};
 
 // How many indices a packed pixel holds.
 pub fn per_pixel(size: usize) -> usize
@@ -55,7 +55,7 @@ pub fn entry_at(table: &[[u8; 4]; 256], i: u8) -> Pixel
 
 pub fn first_at(pairs: &[[u8; 8]; 256], k: usize) -> Pixel
     requires { ⌜ k < 256 ⌝ }
-    ensures { λ r. ⌜ r ≡ firstIn (now (pairs .entry)) k ⌝ }
+    ensures { λ r. ⌜ r ≡ entryIn (now (pairs .entry)) k ⌝ }
 {
     Pixel {
         red: pairs[k][0],

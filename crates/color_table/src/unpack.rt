@@ -17,7 +17,7 @@ ghost use Rattle.format.specs.Picture.{Picture, pixels, written};
 ghost use Rattle.format.specs.ColorTable.{perPixel, range, packedWidth, entry, unpacked};
 ghost use Rattle.pixel.specs.Cells.{pixelCells, putPixel, run, given};
 ghost use Rattle.format.specs.Sizes.{Sized, Holds};
-ghost use Rattle.color_table.specs.Table.{entryIn, firstIn, secondIn, TableOf, PairsOf};
+ghost use Rattle.color_table.specs.Table.{entryIn, secondIn, TableOf, PairsOf};
 ghost use Rattle.color_table.specs.Unpack.{spread, rowOf, looked};
 
 // Columns of a row of packed pixels.
@@ -46,7 +46,7 @@ fn packed_byte(part: &[u8], k: usize) -> u8
 // Pair k as pixels i and i + 1. Both are read before one is written, so that the eight bytes are moved at once.
 fn put_pair(part: &mut [u8], i: usize, pairs: &[[u8; 8]; 256], k: usize)
     requires { ⌜ (4 * i + 8 ≤ length (now part)) × (k < 256) ⌝ }
-    ensures { λ _. ⌜ now (part .exit) ≡ putPixel (putPixel (now (part .entry)) i (firstIn (now (pairs .entry)) k)) (i + 1) (secondIn (now (pairs .entry)) k) ⌝ }
+    ensures { λ _. ⌜ now (part .exit) ≡ putPixel (putPixel (now (part .entry)) i (entryIn (now (pairs .entry)) k)) (i + 1) (secondIn (now (pairs .entry)) k) ⌝ }
 {
     let u = first_at(pairs, k);
     let v = second_at(pairs, k);

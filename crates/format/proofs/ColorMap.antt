@@ -84,7 +84,7 @@ unadjusted-local : (b c : ℕ → ℕ) (i : ℕ) → ((j : ℕ) → j ≤ i → 
 unfolding unadjusted
 unadjusted-local b c i h = cc (h i (le-refl i), h (i - 4) (omega arith))
 
--- ---- whole maps
+-- whole maps
 
 module _ (f g : (ℕ → ℕ) → ℕ → ℕ) (xs : List ℕ) (local : (b c : ℕ → ℕ) (i : ℕ) → ((j : ℕ) → j ≤ i → b j ≡ c j) → f b i ≡ f c i)
     (undo : (i : ℕ) → f (g (byteAt xs)) i ≡ byteAt xs i) where

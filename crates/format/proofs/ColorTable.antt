@@ -15,7 +15,7 @@ use Rattle.format.specs.ColorTable.{perPixel, range, packedWidth, indexI
 use Rattle.format.proofs.Choice.{every-at}
 use Rattle.format.proofs.Pixels.{equal-true, equal-refl}
 
--- ---- the lowest index
+-- the lowest index
 
 pub lowest-hit : (e : Picture) (v : Pixel) (k i : ℕ) → lowest e v k i < i + k → e (lowest e v k i) ≡ v
 unfolding lowest
@@ -47,7 +47,7 @@ lowest-least e v (suc k) i j a q l = go (equal (e i) v) refl (lowest-least e v k
     go true r ih = a
     go false r ih = let n = other r in ih (omega arith) q (omega arith)
 
--- ---- how many indices go into a byte
+-- how many indices go into a byte
 
 pub record Places (size n : ℕ) : Type 0 where
   pub fits : size ≤ range n
@@ -76,7 +76,7 @@ perPixel-pos size = go (leb size 2) (leb size 4) (leb size 16)
     go false false true = lit< tt
     go false false false = lit< tt
 
--- ---- digits
+-- digits
 
 module _ (u : ℕ) (pos : 0 < u) where
   pub digit : (n : ℕ) (g : ℕ → ℕ) (j : ℕ) → ((k : ℕ) → k < n → g k < u) → j < n → digits u n g / u ^ j % u ≡ g j
@@ -93,7 +93,7 @@ module _ (u : ℕ) (pos : 0 < u) where
       ∙ ap (λ (z : ℕ). z / u ^ j % u) whole
       ∙ digit n (λ k. g (suc k)) j (λ k m. h (suc k) (omega arith)) (le-of-suc-le-suc l)
 
--- ---- columns
+-- columns
 
 -- column x is packed inside the row
 pub column-packed : (w n x : ℕ) → 0 < n → x < w → x / n < ceiling w n
@@ -102,7 +102,7 @@ column-packed w n x pos l = le-div-iff-mul-le pos .1 (omega (arith, suc-mul (x /
 pub ceiling-pos : (w n : ℕ) → 0 < w → 0 < n → 0 < ceiling w n
 ceiling-pos w n p q = le-div-iff-mul-le q .1 (omega (arith, one-mul n))
 
--- ---- rebuilding undoes storing
+-- rebuilding undoes storing
 
 module _ (w h size : ℕ) (e f : Picture) (pos : 0 < w) (least : size ≤ 256) (taken : accepted size e (h * w) f ≡ true) where
   abbrev n : ℕ

@@ -8,7 +8,7 @@ use borrow.Author.Tests.{eq-eqb, ne-eqb}
 use lib.ListN.{length, drop, length-drop}
 use Rattle.format.specs.Picture.{Picture, byteAt, written, writtenBytes, paint, inOrder}
 
--- ---- items replaced in order
+-- items replaced in order
 
 pub paint-at : {P : Type 0} (f : ℕ → P) (p : ℕ) (v : P) → paint f p v p ≡ v
 paint-at f p v = rw (eq-eqb p p refl)
@@ -43,7 +43,7 @@ module _ {P : Type 0} (rule : (ℕ → P) → ℕ → P) where
   unfolding inOrder
   inOrder-at g n q l = inOrder-kept g (suc q) n q l (omega arith) ∙ paint-at (inOrder rule q g) q (rule (inOrder rule q g) q)
 
--- ---- the front of a buffer, byte by byte
+-- the front of a buffer, byte by byte
 
 pub length-writtenBytes : (n : ℕ) (f : ℕ → ℕ) (xs : List ℕ) → n ≤ length xs → length (writtenBytes n f xs) ≡ length xs
 unfolding writtenBytes
@@ -57,7 +57,7 @@ byteAt-writtenBytes zero f xs i l = absurd (not-suc-le-zero l)
 byteAt-writtenBytes (suc n) f xs zero l = refl
 byteAt-writtenBytes (suc n) f xs (suc i) l = byteAt-writtenBytes n (λ j. f (suc j)) (drop 1 xs) i (le-of-suc-le-suc l)
 
--- ---- pixel by pixel
+-- pixel by pixel
 
 pub written-same : (n : ℕ) (f g : Picture) (xs : List ℕ) → ((i : ℕ) → i < n → f i ≡ g i) → written n f xs ≡ written n g xs
 unfolding written

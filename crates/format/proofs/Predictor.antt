@@ -5,49 +5,18 @@ use native.Mathlib.Nat.{div-add-mod', mod-lt, not-suc-le-zero, suc-mul, le-refl,
 use native.Mathlib.Decide.{ℕ-discrete}
 use native.Mathlib.Omega.{arith}
 use borrow.Author.Tests.{eqb-false}
-use lib.Dec.{eqb, ltb}
+use lib.Dec.{eqb}
 use Rattle.format.specs.Choice.{if_then_else_}
 use Rattle.format.specs.declared.Pixel.{Pixel}
-use Rattle.format.specs.Byte.{add, sub, distance}
+use Rattle.format.specs.Byte.{add, sub}
 use Rattle.format.specs.Pixel.{black, each}
 use Rattle.format.specs.Picture.{Picture, inOrder}
-use Rattle.format.specs.Predictor.{select, distanceTo, between, topRight, predicted, residuals, gained, fromResiduals}
+use Rattle.format.specs.Predictor.{topRight, predicted, residuals, gained, fromResiduals}
 use Rattle.format.proofs.Choice.{if-same}
 use Rattle.format.proofs.Pixels.{Bytes, each-add-sub, each-sub-add}
 use Rattle.format.proofs.Picture.{paint-at, paint-other, inOrder-ahead, inOrder-at, inOrder-kept}
 
--- ---- select
-
-shift-left : (l t tl : ℕ) → distance (l + t) (tl + l) ≡ distance t tl
-shift-left l t tl = omega arith
-
-shift-top : (l t tl : ℕ) → distance (l + t) (tl + t) ≡ distance l tl
-shift-top l t tl = omega arith
-
-to-left : (l t tl : Pixel) → distanceTo l l t tl ≡ between t tl
-to-left l t tl =
-    cc (
-      shift-left (l .red) (t .red) (tl .red),
-      shift-left (l .green) (t .green) (tl .green),
-      shift-left (l .blue) (t .blue) (tl .blue),
-      shift-left (l .alpha) (t .alpha) (tl .alpha),
-    )
-
-to-top : (l t tl : Pixel) → distanceTo t l t tl ≡ between l tl
-to-top l t tl =
-    cc (
-      shift-top (l .red) (t .red) (tl .red),
-      shift-top (l .green) (t .green) (tl .green),
-      shift-top (l .blue) (t .blue) (tl .blue),
-      shift-top (l .alpha) (t .alpha) (tl .alpha),
-    )
-
--- |p - L| is |T - TL|, and |p - T| is |L - TL|, for p = L + T - TL
-pub select-between : (l t tl : Pixel) → select l t tl ≡ (if ltb (between t tl) (between l tl) then l else t)
-unfolding select
-select-between l t tl = rw (to-left l t tl, to-top l t tl)
-
--- ---- widths 1 and 2
+-- widths 1 and 2
 
 pub top-right-width-2 : (f : Picture) (y : ℕ) → topRight 2 f 1 y ≡ f (y * 2)
 top-right-width-2 f y = refl
@@ -59,7 +28,7 @@ predicted-width-1 bits d f q =
     let o : (q - 1) * 1 + 0 ≡ q - 1 = omega arith in
     rw (mod-one q, div-one q, o)
 
--- ---- earlier pixels
+-- earlier pixels
 
 -- the row above, by its first index
 pub row-above : (w y : ℕ) → (y ≡ 0 → ⊥) → (y - 1) * w + w ≡ y * w

@@ -20,7 +20,7 @@ range n = 2 ^ (8 / n)
 abbrev pub packedWidth : ℕ → ℕ → ℕ
 packedWidth size w = ceiling w (perPixel size)
 
--- ---- rebuilding
+-- rebuilding
 
 -- index k of the packed byte b, lowest bits first
 abbrev pub indexIn : ℕ → ℕ → ℕ → ℕ
@@ -37,7 +37,7 @@ unpackedAt w size e g x y = entry size e (indexIn (perPixel size) (g (y * packed
 unfoldable pub unpacked : ℕ → ℕ → Picture → Picture → Picture
 unpacked w size e g q = unpackedAt w size e g (q % w) (q / w)
 
--- ---- storing
+-- storing
 
 -- the lowest index from i on, among k, whose entry equals v; i + k where there is none
 unfoldable pub lowest : Picture → Pixel → ℕ → ℕ → ℕ
@@ -72,7 +72,7 @@ packedAt w size e f j y =
 unfoldable pub packed : ℕ → ℕ → Picture → Picture → Picture
 packed w size e f r = packedAt w size e f (r % packedWidth size w) (r / packedWidth size w)
 
--- ---- what storing a picture through the table answers and leaves
+-- what storing a picture through the table answers and leaves
 
 -- refusal 21: a pixel has no entry
 unfoldable pub storedAnswer : ℕ → Picture → ℕ → Picture → ℕ

@@ -28,7 +28,7 @@ unfoldable pub inOrder : {P : Type 0} → ((ℕ → P) → ℕ → P) → ℕ �
 inOrder rule zero f = f
 inOrder rule (suc n) f = paint (inOrder rule n f) n (rule (inOrder rule n f) n)
 
--- ---- bytes
+-- bytes
 
 -- the byte at an index; 0 beyond the end
 abbrev pub byteAt : List ℕ → ℕ → ℕ

@@ -16,10 +16,6 @@ distanceTo u l t tl =
     + distance (l .blue + t .blue) (tl .blue + u .blue)
     + distance (l .alpha + t .alpha) (tl .alpha + u .alpha)
 
--- the sum over four channels of |u - v|; |p - L| is |T - TL| and |p - T| is |L - TL|, which code computes
-abbrev pub between : Pixel → Pixel → ℕ
-between u v = distance (u .red) (v .red) + distance (u .green) (v .green) + distance (u .blue) (v .blue) + distance (u .alpha) (v .alpha)
-
 -- L where it is nearer to the estimate, else T
 unfoldable pub select : Pixel → Pixel → Pixel → Pixel
 select l t tl = if ltb (distanceTo l l t tl) (distanceTo t l t tl) then l else t

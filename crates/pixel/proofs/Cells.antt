@@ -13,7 +13,7 @@ use Rattle.format.specs.Pixel.{pixel}
 use Rattle.format.specs.Picture.{byteAt, pixels, paint, inOrder}
 use Rattle.pixel.specs.Cells.{Cells, byteCells, pixelCells, putPixel, Rule, run}
 
--- ---- one cell replaced
+-- one cell replaced
 
 -- what replacing a cell does to the others, and to itself where it is inside
 pub record Lawful {P : Type 0} (c : Cells P) : Type 0 where
@@ -139,7 +139,7 @@ put-same xs i =
 pub pixel-lawful : Lawful pixelCells
 pixel-lawful = record { length-put = length-putPixel; get-other = λ xs i j v n. pixel-other xs i v j n; get-same = λ xs i v h. pixel-same xs i v h; put-comm = put-comm-pixel }
 
--- ---- a loop over i from a up to b
+-- a loop over i from a up to b
 
 module _ {P : Type 0} where
   pub run-none : (c : Cells P) (h : Rule P) (a : ℕ) (xs : List ℕ) → xs ≡ run c h a (a - a) xs
@@ -177,7 +177,7 @@ module _ {P : Type 0} where
       let j : b - a + (d - b) ≡ d - a = omega arith in
       q ∙ rw e (rw (i, j) at (run-append c h a xs (b - a) (d - b)))
 
-  -- ---- what stays, and what is read
+  -- what stays, and what is read
 
   module _ (c : Cells P) (ok : Lawful c) (h : Rule P) (a : ℕ) (xs : List ℕ) where
     pub length-run : (n : ℕ) → length (run c h a n xs) ≡ length xs
@@ -242,7 +242,7 @@ module _ {P : Type 0} where
       let q = e (a + n) (omega arith) (omega arith) (run c k a n xs) (run-before c ok k a xs n) (λ j. run-after c ok k a xs n j) in
       cc
 
-  -- ---- the cells of the buffer, in place of its bytes
+  -- the cells of the buffer, in place of its bytes
 
   get-paint : (c : Cells P) → Lawful c → (xs : List ℕ) (i : ℕ) (v : P) → c .size * i + c .size ≤ length xs → c .get (c .put xs i v) ≡ paint (c .get xs) i v
   get-paint c ok xs i v h = fun-ext (λ q. go q (ℕ-discrete q i))

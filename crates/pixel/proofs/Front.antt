@@ -37,7 +37,7 @@ bytes-are xs ys f l h =
     let m = length-writtenBytes (length xs) f xs (le-refl (length xs)) in
     ext-getD 0 ys (writtenBytes (length xs) f xs) (l ∙ sym m) (λ i k. h i (omega arith) ∙ sym (byteAt-writtenBytes (length xs) f xs i (omega arith)))
 
--- ---- pixels
+-- pixels
 
 putPixel-cons : (a b c d : ℕ) (xs : List ℕ) (i : ℕ) (v : Pixel) → putPixel (a ∷ b ∷ c ∷ d ∷ xs) (suc i) v ≡ a ∷ b ∷ c ∷ d ∷ putPixel xs i v
 unfolding putPixel
@@ -71,7 +71,7 @@ pixel-front = record {
   last = λ n f xs l. written-last n f xs l;
 }
 
--- ---- for code
+-- for code
 
 pub pixels-run : (h : Rule Pixel) (xs : List ℕ) (n : ℕ) → 4 * n ≤ length xs → run pixelCells h 0 n xs ≡ written n (inOrder h n (pixels xs)) xs
 pixels-run h xs n l = run-front pixelCells pixel-lawful written pixel-front h xs n l

@@ -1,4 +1,5 @@
 pub mod Cells
+pub mod Distance
 pub mod Front
 pub mod Part
 pub mod Channels

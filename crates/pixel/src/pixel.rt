@@ -14,7 +14,8 @@ ghost use Rattle.format.specs.Choice.{if_then_else_};
 ghost use Rattle.format.specs.Byte.{add, sub, avg, clampFull, clampHalf};
 ghost use Rattle.format.specs.Pixel.{each, each3};
 ghost use Rattle.format.specs.Picture.{pixels};
-ghost use Rattle.format.specs.Predictor.{between, select as selected};
+ghost use Rattle.format.specs.Predictor.{select as selected};
+ghost use Rattle.pixel.specs.Distance.{between};
 ghost use Rattle.pixel.specs.Cells.{putPixel};
 
 // Pixel i of the bytes xs.

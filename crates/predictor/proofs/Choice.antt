@@ -9,8 +9,9 @@ use lib.ListN.{length}
 use Rattle.format.specs.Choice.{if_then_else_}
 use Rattle.format.specs.declared.Pixel.{Pixel}
 use Rattle.format.specs.Picture.{pixels}
-use Rattle.format.specs.Predictor.{predict, between}
-use Rattle.format.proofs.Predictor.{select-between}
+use Rattle.format.specs.Predictor.{predict}
+use Rattle.pixel.specs.Distance.{between}
+use Rattle.pixel.proofs.Distance.{select-between}
 use Rattle.pixel.specs.Cells.{putPixel}
 use Rattle.pixel.proofs.Cells.{pixel-same, pixel-other}
 use Rattle.predictor.specs.Row.{around, leftNearer}

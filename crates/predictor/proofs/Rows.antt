@@ -23,7 +23,7 @@ use Rattle.pixel.proofs.Part.{back, part-run, pixel-part}
 use Rattle.predictor.specs.Row.{around, gains, rowPredicted}
 use Rattle.predictor.proofs.Blocks.{row-first}
 
--- ---- row 0
+-- row 0
 
 module _ (w bits : ℕ) (D : Picture) (p : ℕ → Pixel) where
   pub predicted-first : 0 < w → predicted w bits D p (0 % w) (0 / w) ≡ around 0 w p 0
@@ -37,7 +37,7 @@ module _ (w bits : ℕ) (D : Picture) (p : ℕ → Pixel) where
       let z : 0 * w + (i - 1) ≡ i - 1 = omega arith in
       rw (div-eq-of-lt u, mod-eq-of-lt u, ne-eqb i 0 n, z)
 
--- ---- row y off the first, whose part starts at row y - 1
+-- row y off the first, whose part starts at row y - 1
 
 module _ (w bits : ℕ) (D : Picture) (p : ℕ → Pixel) (y : ℕ) (off : y ≡ 0 → ⊥) where
   predicted-column-0 : predicted w bits D p 0 y ≡ p ((y - 1) * w + 0)
@@ -98,7 +98,7 @@ module _ (w bits y : ℕ) (D d : Picture) (off : 1 ≤ y) (blocks : (j : ℕ) �
       go (yes z) less f = let k : i ≡ w = omega arith in rw z (column-0 (omega arith) ∙ ap (rowPredicted w bits d q) (sym k))
       go (no n) less f = off-column-0 (i - w) n less ∙ ap (rowPredicted w bits d q) f
 
--- ---- the whole picture, once a row's part is back
+-- the whole picture, once a row's part is back
 
 -- rows y - 1 and y
 pub pair-there : (w h y : ℕ) → 1 ≤ y → y < h → (y - 1) * w + 2 * w ≤ h * w
@@ -128,7 +128,7 @@ module _ (w h bits y : ℕ) (bs xs : List ℕ) (room : Holds w h xs) (blocked : 
           → gained w bits (pixels bs) p ((y - 1) * w + i) ≡ gains (rowPredicted w bits d) q i
       seen d p q i l u agree blocks = cc (agree i u, row-predicted w bits y (pixels bs) d off blocks p q agree i l u)
 
--- ---- row 0
+-- row 0
 
 -- the first pixel, then the others
 pub first-row : (w bits : ℕ) (D : Picture) (xs ys zs : List ℕ) → ys ≡ run pixelCells (gains (around 0 w)) 0 (1 - 0) xs → zs ≡ run pixelCells (gains (around 1 w)) 1 (w - 1) ys → 1 ≤ w

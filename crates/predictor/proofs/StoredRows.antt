@@ -20,7 +20,7 @@ use Rattle.pixel.proofs.Part.{back, part-run, pixel-part}
 use Rattle.predictor.specs.Row.{residual, rowPredicted, leftResidual}
 use Rattle.predictor.proofs.Rows.{pair-there, block-part, predicted-first, predicted-left, row-predicted}
 
--- ---- row 0
+-- row 0
 
 module _ (w bits : ℕ) (D p : Picture) (h : 1 ≤ w) where
   first-black : residuals w bits D p 0 ≡ each sub (p 0) black
@@ -40,7 +40,7 @@ module _ (w bits : ℕ) (D p : Picture) (h : 1 ≤ w) where
       (f ∙ given-same (leftResidual p) (residuals w bits D p) 1 ys (w - 1) (λ i l u. others-left i l (omega arith)))
       (omega arith)
 
--- ---- row y off the first
+-- row y off the first
 
 module _ (w h bits y : ℕ) (bs ps xs : List ℕ) (there : Holds w h ps) (room : Holds w h xs) (blocked : Blocked w h bits bs) (off : 1 ≤ y) (below : y < h) where
   abbrev above : ℕ

@@ -10,7 +10,8 @@ use Rattle.format.specs.Choice.{if_then_else_}
 use Rattle.format.specs.Byte.{add, sub}
 use Rattle.format.specs.Pixel.{each}
 use Rattle.format.specs.Picture.{Picture}
-use Rattle.format.specs.Predictor.{predict, between}
+use Rattle.format.specs.Predictor.{predict}
+use Rattle.pixel.specs.Distance.{between}
 use Rattle.pixel.specs.Cells.{Rule}
 
 -- the prediction of pixel i from its neighbors by a mode; TR of the last column is the row's first pixel, since the row follows the row above

@@ -13,7 +13,7 @@ ghost use Rattle.format.specs.Choice.{if_then_else_};
 ghost use Rattle.format.specs.Byte.{add};
 ghost use Rattle.format.specs.Pixel.{each};
 ghost use Rattle.format.specs.Picture.{pixels};
-ghost use Rattle.format.specs.Predictor.{between};
+ghost use Rattle.pixel.specs.Distance.{between};
 ghost use Rattle.pixel.specs.Cells.{pixelCells, run};
 ghost use Rattle.predictor.specs.Row.{around, gains, leftNearer, Inside, Segment};
 

@@ -1,7 +1,7 @@
 -- `select` meets its contract: the test is the definition's, with what both sides share taken off.
 use mathlib.Core.Path.{_∙_}
 use borrow.Author.Needs.{needs}
-use Rattle.format.proofs.Predictor.{select-between}
+use Rattle.pixel.proofs.Distance.{select-between}
 use Rattle.pixel.proofs.pixel.select.Statement.{statement}
 use Rattle.pixel.proofs.pixel.select.Tie as tie
 

@@ -4,7 +4,7 @@ use lib.Dec.{ltb}
 use Rattle.format.specs.declared.Pixel.{Pixel}
 use Rattle.format.specs.Byte.{add}
 use Rattle.format.specs.Pixel.{each}
-use Rattle.format.specs.Predictor.{between}
+use Rattle.pixel.specs.Distance.{between}
 use Rattle.predictor.proofs.Choice.{pick-after}
 use borrow.Author.Needs.{needs}
 use Rattle.predictor.proofs.select.choose.Statement.{statement}

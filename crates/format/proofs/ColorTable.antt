@@ -145,3 +145,24 @@ module _ (w h size : ℕ) (e f : Picture) (pos : 0 < w) (least : size ≤ 256) (
           rw (digits-div y column, digits-mod y column)
           (digit (range n) (places size least .some) n (λ k. indexAt w size e f y (x / n * n + k)) (x % n) (λ k m. digit-small y below (x / n * n + k)) (mod-lt x (perPixel-pos size))
           ∙ rw (div-add-mod' x n, lt-ltb x w inside) (ap (λ (z : ℕ). indexOf size e (f z)) (div-add-mod' q w)))
+
+-- a packed byte is a byte
+
+module _ (u : ℕ) (pos : 0 < u) where
+  digits-below : (n : ℕ) (g : ℕ → ℕ) → ((k : ℕ) → k < n → g k < u) → digits u n g < u ^ n
+  unfolding digits
+  digits-below zero g h = rw (pow-zero u) (lit< tt)
+  digits-below (suc n) g h =
+      let P = digits u n (λ k. g (suc k)) in
+      let below : P * u + g 0 < u ^ n * u = digits-lt (digits-below n (λ k. g (suc k)) (λ k m. h (suc k) (omega arith))) (h 0 (omega arith)) in
+      omega (arith, pow-succ' u n)
+
+module _ (w h size : ℕ) (e f : Picture) (pos : 0 < w) (least : size ≤ 256) (taken : accepted size e (h * w) f ≡ true) where
+  pub packed-byte : (r : ℕ) → r < h * packedWidth size w → packed w size e f r .green < 256
+  unfolding packed
+  packed-byte r l =
+      let u = perPixel size in
+      let y = r / packedWidth size w in
+      let below : y < h = div-lt-iff-lt-mul (ceiling-pos w u pos (perPixel-pos size)) .1 l in
+      let b = digits-below (range u) (places size least .some) u (λ k. indexAt w size e f y (r % packedWidth size w * u + k)) (λ k m. digit-small w h size e f pos least taken y below (r % packedWidth size w * u + k)) in
+      rw (places size least .whole) at b

@@ -9,3 +9,8 @@ pub mod Color
 pub mod SubtractGreen
 pub mod ColorTable
 pub mod ColorMap
+pub mod Chain
+pub mod Refusals
+pub mod Stages
+pub mod Calls
+pub mod ValidStep

@@ -1,0 +1,2 @@
+-- What the contracts of `chain` cite beside the definitions of `format`.
+pub mod Reading

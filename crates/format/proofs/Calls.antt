@@ -1,0 +1,127 @@
+-- Laws of the calls on chains: which numbers they answer, when they accept, and what the buffer holds then.
+use mathlib.Core.Bool.{Bool, true, false, _&&_}
+use mathlib.Core.List.{List}
+use mathlib.Core.Logic.{_⊎_, inl, inr}
+use mathlib.Core.Path.{_≡_, refl}
+use Prim.Native.Nat.{ℕ, zero, suc, _*_, _≤_}
+use native.Mathlib.Omega.{arith}
+use borrow.Author.Tests.{leb-true, le-leb, ne-eqb}
+use lib.Dec.{eqb, lit≤}
+use lib.ListN.{length}
+use Rattle.format.specs.Choice.{if_then_else_}
+use Rattle.format.specs.declared.Checked.{Checked}
+use Rattle.format.specs.declared.Checked.the-variants.{Taken, UnknownKind, KindAgain, NotTabled, WrongLength, BeyondData}
+use Rattle.format.specs.Picture.{pixels, written}
+use Rattle.format.specs.Chain.{stepAt, count}
+use Rattle.format.specs.Refusals.{usedBefore, checked, number, _unless_, _before_, recordsRefusal, inRange, wholeRecords, chainRefusal}
+use Rattle.format.specs.Stages.{stored, rebuilt, accepts}
+use Rattle.format.specs.Calls.{holds, records, rebuildAnswer, rebuildImage, storeAnswer, storeStrip}
+use Rattle.format.proofs.Choice.{and-left, and-right, and-both}
+use Rattle.format.proofs.Valid.{before-zero, unless-zero}
+
+-- what holds of two refusals holds of the first of them
+before-is : (P : ℕ → Type 0) (a b : ℕ) → P a → P b → P (a before b)
+before-is P a b p q = go (eqb a 0)
+  where
+    go : (t : Bool) → P (if t then b else a)
+    go true = q
+    go false = p
+
+unless-is : (P : ℕ → Type 0) (n : ℕ) (b : Bool) → P 0 → P n → P (n unless b)
+unless-is P n true p q = p
+unless-is P n false p q = q
+
+number-most : (c : Checked) → number c ≤ 7
+number-most (Taken s) = lit≤ tt
+number-most UnknownKind = lit≤ tt
+number-most KindAgain = lit≤ tt
+number-most NotTabled = lit≤ tt
+number-most WrongLength = lit≤ tt
+number-most BeyondData = lit≤ tt
+
+records-most : (cs : List ℕ) (w h n k : ℕ) → recordsRefusal cs w h n k ≤ 7
+unfolding recordsRefusal
+records-most cs w h n zero = lit≤ tt
+records-most cs w h n (suc k) =
+    before-is (λ r. r ≤ 7) (recordsRefusal cs w h n k) _ (records-most cs w h n k) (number-most (checked (usedBefore cs k) h n (stepAt cs w k)))
+
+pub chainRefusal-most : (w h : ℕ) (cs : List ℕ) (n : ℕ) → chainRefusal w h cs n ≤ 7
+unfolding chainRefusal
+chainRefusal-most w h cs n =
+    before-is (λ r. r ≤ 7) (1 unless (inRange w && inRange h)) _ (unless-is (λ r. r ≤ 7) 1 (inRange w && inRange h) (lit≤ tt) (lit≤ tt))
+    (before-is (λ r. r ≤ 7) (2 unless wholeRecords cs) _ (unless-is (λ r. r ≤ 7) 2 (wholeRecords cs) (lit≤ tt) (lit≤ tt)) (records-most cs w h n (count cs)))
+
+module _ (w h : ℕ) (cs ds : List ℕ) where
+  abbrev refusal : ℕ
+  refusal = chainRefusal w h cs (length ds)
+
+  -- rebuilding
+
+  module _ (image : List ℕ) where
+    abbrev room : Bool
+    room = holds image (h * w)
+
+    pub rebuildAnswer-most : rebuildAnswer w h cs ds image ≤ 8
+    unfolding rebuildAnswer
+    rebuildAnswer-most =
+        let m = chainRefusal-most w h cs (length ds) in
+        before-is (λ r. r ≤ 8) refusal (8 unless room) (omega arith) (unless-is (λ r. r ≤ 8) 8 room (lit≤ tt) (lit≤ tt))
+
+    pub rebuild-accepts : refusal ≡ 0 → 4 * (h * w) ≤ length image → rebuildAnswer w h cs ds image ≡ 0
+    unfolding rebuildAnswer
+    rebuild-accepts e l = rw (e, le-leb (4 * (h * w)) (length image) l)
+
+    pub rebuild-accepted : rebuildAnswer w h cs ds image ≡ 0 → (refusal ≡ 0) × (4 * (h * w) ≤ length image)
+    unfolding rebuildAnswer
+    rebuild-accepted e =
+        let a = before-zero refusal (8 unless room) e in
+        (a .0, leb-true (4 * (h * w)) (length image) (unless-zero 7 room (a .1)))
+
+    pub rebuildImage-accepted : rebuildAnswer w h cs ds image ≡ 0 → rebuildImage w h cs ds image ≡ written (h * w) (rebuilt cs w h ds (count cs) (pixels image)) image
+    unfolding rebuildImage
+    rebuildImage-accepted e = rw e
+
+    pub rebuildImage-refused : (rebuildAnswer w h cs ds image ≡ 0 → ⊥) → rebuildImage w h cs ds image ≡ image
+    unfolding rebuildImage
+    rebuildImage-refused n = rw (ne-eqb (rebuildAnswer w h cs ds image) 0 n)
+
+  -- storing
+
+  module _ (picture strip : List ℕ) where
+    abbrev rooms : Bool
+    rooms = holds picture (h * w) && holds strip (records w h cs)
+
+    abbrev accepting : Bool
+    accepting = accepts cs w h ds (count cs) (pixels picture)
+
+    pub storeAnswer-listed : (storeAnswer w h cs ds picture strip ≤ 8) ⊎ (storeAnswer w h cs ds picture strip ≡ 21)
+    unfolding storeAnswer
+    storeAnswer-listed =
+        let m = chainRefusal-most w h cs (length ds) in
+        before-is Listed refusal _ (inl (omega arith))
+        (before-is Listed (8 unless rooms) (21 unless accepting) (unless-is Listed 8 rooms (inl (lit≤ tt)) (inl (lit≤ tt))) (unless-is Listed 21 accepting (inl (lit≤ tt)) (inr refl)))
+      where
+        Listed : ℕ → Type 0
+        Listed r = (r ≤ 8) ⊎ (r ≡ 21)
+
+    pub store-accepts : refusal ≡ 0 → 4 * (h * w) ≤ length picture → 4 * records w h cs ≤ length strip → accepting ≡ true → storeAnswer w h cs ds picture strip ≡ 0
+    unfolding storeAnswer
+    store-accepts e l m a =
+        rw (e, and-both (holds picture (h * w)) (holds strip (records w h cs)) (le-leb (4 * (h * w)) (length picture) l) (le-leb (4 * records w h cs) (length strip) m), a)
+
+    pub store-accepted : storeAnswer w h cs ds picture strip ≡ 0
+        → (refusal ≡ 0) × (4 * (h * w) ≤ length picture) × (4 * records w h cs ≤ length strip) × (accepting ≡ true)
+    unfolding storeAnswer
+    store-accepted e =
+        let a = before-zero refusal _ e in
+        let b = before-zero (8 unless rooms) (21 unless accepting) (a .1) in
+        let r = unless-zero 7 rooms (b .0) in
+        (a .0, leb-true (4 * (h * w)) (length picture) (and-left (holds picture (h * w)) _ r), leb-true (4 * records w h cs) (length strip) (and-right (holds picture (h * w)) _ r), unless-zero 20 accepting (b .1))
+
+    pub storeStrip-accepted : storeAnswer w h cs ds picture strip ≡ 0 → storeStrip w h cs ds picture strip ≡ written (records w h cs) (stored cs w ds (count cs) (pixels picture)) strip
+    unfolding storeStrip
+    storeStrip-accepted e = rw e
+
+    pub storeStrip-refused : (storeAnswer w h cs ds picture strip ≡ 0 → ⊥) → storeStrip w h cs ds picture strip ≡ strip
+    unfolding storeStrip
+    storeStrip-refused n = rw (ne-eqb (storeAnswer w h cs ds picture strip) 0 n)

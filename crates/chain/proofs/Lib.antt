@@ -1,3 +1,4 @@
 pub mod Tabled
 pub mod Records
 pub mod Sizes
+pub mod Parts

@@ -1,19 +1,12 @@
--- Pixels made each from the pixel of the same index, in place or from another picture.
+-- Pixels made each from the pixel that stands in its place.
 use Prim.Native.Nat.{ℕ, _/_, _%_, _^_}
 use Rattle.format.specs.declared.Pixel.{Pixel}
 use Rattle.format.specs.Picture.{Picture, block}
 use Rattle.pixel.specs.Cells.{Rule}
 
--- where the pixels are read, given the buffer that is written: that buffer, or the picture f
-abbrev pub inPlace : Picture → Picture
-inPlace p = p
-
-abbrev pub outOf : Picture → Picture → Picture
-outOf f p = f
-
--- pixel i by k, read where s says
-unfoldable pub pointwise : (ℕ → Pixel → Pixel) → (Picture → Picture) → Rule Pixel
-pointwise k s p i = k i (s p i)
+-- pixel i by k
+unfoldable pub pointwise : (ℕ → Pixel → Pixel) → Rule Pixel
+pointwise k p i = k i (p i)
 
 -- the same at every index
 abbrev pub everywhere : (Pixel → Pixel) → ℕ → Pixel → Pixel

@@ -11,13 +11,14 @@ use std::num::wrapping_sub_u8;
 ghost use mathlib.Core.Path.{_≡_};
 ghost use Prim.Native.Nat.{_-_, _*_, _<_, _≤_};
 ghost use lib.ListN.{length};
-ghost use Rattle.format.specs.Picture.{pixels, written};
+ghost use Rattle.format.specs.Picture.{Picture, pixels, written};
 ghost use Rattle.format.specs.Color.{inverseColor, transformColor, colorRebuilt, colorStored};
 ghost use Rattle.pixel.specs.Cells.{pixelCells, run};
 ghost use Rattle.format.specs.Sizes.{Sized, Holds, Blocked};
 ghost use Rattle.pixel.specs.Blocks.{BlockedRow};
+ghost use Rattle.pixel.specs.Held.{HoldsRow};
 ghost use Rattle.color.specs.Factor.{Factor, DeltaBy, PixelBy};
-ghost use Rattle.color.specs.Row.{inPlace, outOf, pointwise, everywhere, inRow, inPicture};
+ghost use Rattle.color.specs.Row.{pointwise, everywhere, inRow, inPicture};
 
 // The signed byte t modulo 2^13.
 fn factor(t: u8) -> u32
@@ -67,7 +68,7 @@ fn store_pixel(v: Pixel, green_to_red: u32, green_to_blue: u32, red_to_blue: u32
 // Columns of one block, whose data pixel is e.
 fn rebuild_segment(row: &mut [u8], from: usize, to: usize, e: Pixel)
     requires { ⌜ (from ≤ to) × (4 * to ≤ length (now row)) ⌝ }
-    ensures { λ _. ⌜ now (row .exit) ≡ run pixelCells (pointwise (everywhere (inverseColor e)) inPlace) from (to - from) (now (row .entry)) ⌝ }
+    ensures { λ _. ⌜ now (row .exit) ≡ run pixelCells (pointwise (everywhere (inverseColor e))) from (to - from) (now (row .entry)) ⌝ }
 {
     let green_to_red = factor(e.blue);
     let green_to_blue = factor(e.green);
@@ -80,9 +81,9 @@ fn rebuild_segment(row: &mut [u8], from: usize, to: usize, e: Pixel)
     }
 }
 
-fn store_segment(row: &[u8], out: &mut [u8], from: usize, to: usize, e: Pixel)
-    requires { ⌜ (from ≤ to) × (4 * to ≤ length (now row)) × (4 * to ≤ length (now out)) ⌝ }
-    ensures { λ _. ⌜ now (out .exit) ≡ run pixelCells (pointwise (everywhere (transformColor e)) (outOf (pixels (now (row .entry))))) from (to - from) (now (out .entry)) ⌝ }
+fn store_segment(row: &mut [u8], from: usize, to: usize, e: Pixel)
+    requires { ⌜ (from ≤ to) × (4 * to ≤ length (now row)) ⌝ }
+    ensures { λ _. ⌜ now (row .exit) ≡ run pixelCells (pointwise (everywhere (transformColor e))) from (to - from) (now (row .entry)) ⌝ }
 {
     let green_to_red = factor(e.blue);
     let green_to_blue = factor(e.green);
@@ -90,7 +91,7 @@ fn store_segment(row: &[u8], out: &mut [u8], from: usize, to: usize, e: Pixel)
     let mut i = from;
     while i < to {
         let v = store_pixel(read_pixel(row, i), green_to_red, green_to_blue, red_to_blue);
-        write_pixel(out, i, v);
+        write_pixel(row, i, v);
         i += 1;
     }
 }
@@ -99,7 +100,7 @@ fn store_segment(row: &[u8], out: &mut [u8], from: usize, to: usize, e: Pixel)
 pub fn rebuild_row(row: &mut [u8], width: usize, bits: u32, blocks: &[u8])
     requires { ⌜ BlockedRow width bits (now blocks) ⌝ }
     requires { ⌜ 4 * width ≤ length (now row) ⌝ }
-    ensures { λ _. ⌜ now (row .exit) ≡ run pixelCells (pointwise (inRow inverseColor bits (pixels (now (blocks .entry)))) inPlace) 0 width (now (row .entry)) ⌝ }
+    ensures { λ _. ⌜ now (row .exit) ≡ run pixelCells (pointwise (inRow inverseColor bits (pixels (now (blocks .entry))))) 0 width (now (row .entry)) ⌝ }
 {
     let mut x = 0;
     while x < width {
@@ -109,20 +110,20 @@ pub fn rebuild_row(row: &mut [u8], width: usize, bits: u32, blocks: &[u8])
     }
 }
 
-pub fn store_row(row: &[u8], out: &mut [u8], width: usize, bits: u32, blocks: &[u8])
+fn store_segments(row: &mut [u8], width: usize, bits: u32, blocks: &[u8])
     requires { ⌜ BlockedRow width bits (now blocks) ⌝ }
-    requires { ⌜ (4 * width ≤ length (now row)) × (4 * width ≤ length (now out)) ⌝ }
-    ensures { λ _. ⌜ now (out .exit) ≡ run pixelCells (pointwise (inRow transformColor bits (pixels (now (blocks .entry)))) (outOf (pixels (now (row .entry))))) 0 width (now (out .entry)) ⌝ }
+    requires { ⌜ 4 * width ≤ length (now row) ⌝ }
+    ensures { λ _. ⌜ now (row .exit) ≡ run pixelCells (pointwise (inRow transformColor bits (pixels (now (blocks .entry))))) 0 width (now (row .entry)) ⌝ }
 {
     let mut x = 0;
     while x < width {
         let end = block_end(x, bits, width);
-        store_segment(row, out, x, end, pixel_at(blocks, x >> bits));
+        store_segment(row, x, end, pixel_at(blocks, x >> bits));
         x = end;
     }
 }
 
-// Row y of the picture.
+// Row y of the picture, in its place there.
 pub fn rebuild_row_at(
     image: &mut [u8],
     width: usize,
@@ -133,7 +134,7 @@ pub fn rebuild_row_at(
 )
     requires { ⌜ Sized width height × Blocked width height bits (now blocks) × (y < height) ⌝ }
     requires { ⌜ Holds width height (now image) ⌝ }
-    ensures { λ _. ⌜ now (image .exit) ≡ run pixelCells (pointwise (inPicture inverseColor width bits (pixels (now (blocks .entry)))) inPlace) (y * width) width (now (image .entry)) ⌝ }
+    ensures { λ _. ⌜ now (image .exit) ≡ run pixelCells (pointwise (inPicture inverseColor width bits (pixels (now (blocks .entry))))) (y * width) width (now (image .entry)) ⌝ }
 {
     let a = 4 * (y * width);
     let b = a + 4 * width;
@@ -143,25 +144,16 @@ pub fn rebuild_row_at(
     rebuild_row(&mut image[a..b], width, bits, &blocks[c..d]);
 }
 
-pub fn store_row_at(
-    picture: &[u8],
-    strip: &mut [u8],
-    width: usize,
-    height: usize,
-    bits: u32,
-    blocks: &[u8],
-    y: usize,
-)
+// Row y of the picture, in a buffer of its own.
+pub fn store_row(row: &mut [u8], width: usize, height: usize, bits: u32, blocks: &[u8], y: usize)
     requires { ⌜ Sized width height × Blocked width height bits (now blocks) × (y < height) ⌝ }
-    requires { ⌜ Holds width height (now picture) × Holds width height (now strip) ⌝ }
-    ensures { λ _. ⌜ now (strip .exit) ≡ run pixelCells (pointwise (inPicture transformColor width bits (pixels (now (blocks .entry)))) (outOf (pixels (now (picture .entry))))) (y * width) width (now (strip .entry)) ⌝ }
+    requires { ⌜ 4 * width ≤ length (now row) ⌝ }
+    ensures { λ _. ⌜ ((f : Picture) → HoldsRow f y width (now (row .entry)) → HoldsRow (colorStored width bits (pixels (now (blocks .entry))) f) y width (now (row .exit))) ⌝ }
 {
-    let a = 4 * (y * width);
-    let b = a + 4 * width;
     let bx = subsample_size(width, bits);
     let c = 4 * ((y >> bits) * bx);
     let d = c + 4 * bx;
-    store_row(&picture[a..b], &mut strip[a..b], width, bits, &blocks[c..d]);
+    store_segments(row, width, bits, &blocks[c..d]);
 }
 
 pub fn apply_color_transform(
@@ -178,25 +170,6 @@ pub fn apply_color_transform(
     let mut y = 0;
     while y < height {
         rebuild_row_at(image, width, height, bits, blocks, y);
-        y += 1;
-    }
-}
-
-pub fn store_color_transform(
-    picture: &[u8],
-    strip: &mut [u8],
-    width: usize,
-    height: usize,
-    bits: u32,
-    blocks: &[u8],
-)
-    requires { ⌜ Sized width height × Blocked width height bits (now blocks) ⌝ }
-    requires { ⌜ Holds width height (now picture) × Holds width height (now strip) ⌝ }
-    ensures { λ _. ⌜ now (strip .exit) ≡ written (height * width) (colorStored width bits (pixels (now (blocks .entry))) (pixels (now (picture .entry)))) (now (strip .entry)) ⌝ }
-{
-    let mut y = 0;
-    while y < height {
-        store_row_at(picture, strip, width, height, bits, blocks, y);
         y += 1;
     }
 }

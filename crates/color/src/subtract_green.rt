@@ -5,13 +5,14 @@ use pixel::word::write_pixel;
 use std::num::wrapping_add_u8;
 use std::num::wrapping_sub_u8;
 ghost use mathlib.Core.Path.{_≡_};
-ghost use Prim.Native.Nat.{_*_, _<_, _≤_};
+ghost use Prim.Native.Nat.{ℕ, _*_, _<_, _≤_};
 ghost use lib.ListN.{length};
-ghost use Rattle.format.specs.Picture.{pixels, written};
+ghost use Rattle.format.specs.Picture.{Picture, pixels, written};
 ghost use Rattle.format.specs.SubtractGreen.{addGreen, subtractGreen, greenRebuilt, greenStored};
 ghost use Rattle.pixel.specs.Cells.{pixelCells, run};
+ghost use Rattle.pixel.specs.Held.{HoldsRow};
 ghost use Rattle.format.specs.Sizes.{Sized, Holds};
-ghost use Rattle.color.specs.Row.{inPlace, outOf, pointwise, everywhere};
+ghost use Rattle.color.specs.Row.{pointwise, everywhere};
 
 fn rebuild_pixel(v: Pixel) -> Pixel
     ensures { λ r. ⌜ r ≡ addGreen v ⌝ }
@@ -37,7 +38,7 @@ fn store_pixel(v: Pixel) -> Pixel
 
 pub fn rebuild_row(row: &mut [u8], width: usize)
     requires { ⌜ 4 * width ≤ length (now row) ⌝ }
-    ensures { λ _. ⌜ now (row .exit) ≡ run pixelCells (pointwise (everywhere addGreen) inPlace) 0 width (now (row .entry)) ⌝ }
+    ensures { λ _. ⌜ now (row .exit) ≡ run pixelCells (pointwise (everywhere addGreen)) 0 width (now (row .entry)) ⌝ }
 {
     let mut i = 0;
     while i < width {
@@ -47,37 +48,28 @@ pub fn rebuild_row(row: &mut [u8], width: usize)
     }
 }
 
-pub fn store_row(row: &[u8], out: &mut [u8], width: usize)
-    requires { ⌜ (4 * width ≤ length (now row)) × (4 * width ≤ length (now out)) ⌝ }
-    ensures { λ _. ⌜ now (out .exit) ≡ run pixelCells (pointwise (everywhere subtractGreen) (outOf (pixels (now (row .entry))))) 0 width (now (out .entry)) ⌝ }
+// A row of the picture, in a buffer of its own.
+pub fn store_row(row: &mut [u8], width: usize)
+    requires { ⌜ 4 * width ≤ length (now row) ⌝ }
+    ensures { λ _. ⌜ ((f : Picture) (y : ℕ) → HoldsRow f y width (now (row .entry)) → HoldsRow (greenStored f) y width (now (row .exit))) ⌝ }
 {
     let mut i = 0;
     while i < width {
         let v = store_pixel(read_pixel(row, i));
-        write_pixel(out, i, v);
+        write_pixel(row, i, v);
         i += 1;
     }
 }
 
-// Row y of the picture.
+// Row y of the picture, in its place there.
 pub fn rebuild_row_at(image: &mut [u8], width: usize, height: usize, y: usize)
     requires { ⌜ Sized width height × (y < height) ⌝ }
     requires { ⌜ Holds width height (now image) ⌝ }
-    ensures { λ _. ⌜ now (image .exit) ≡ run pixelCells (pointwise (everywhere addGreen) inPlace) (y * width) width (now (image .entry)) ⌝ }
+    ensures { λ _. ⌜ now (image .exit) ≡ run pixelCells (pointwise (everywhere addGreen)) (y * width) width (now (image .entry)) ⌝ }
 {
     let a = 4 * (y * width);
     let b = a + 4 * width;
     rebuild_row(&mut image[a..b], width);
-}
-
-pub fn store_row_at(picture: &[u8], strip: &mut [u8], width: usize, height: usize, y: usize)
-    requires { ⌜ Sized width height × (y < height) ⌝ }
-    requires { ⌜ Holds width height (now picture) × Holds width height (now strip) ⌝ }
-    ensures { λ _. ⌜ now (strip .exit) ≡ run pixelCells (pointwise (everywhere subtractGreen) (outOf (pixels (now (picture .entry))))) (y * width) width (now (strip .entry)) ⌝ }
-{
-    let a = 4 * (y * width);
-    let b = a + 4 * width;
-    store_row(&picture[a..b], &mut strip[a..b], width);
 }
 
 pub fn apply_subtract_green_transform(image: &mut [u8], width: usize, height: usize)
@@ -88,18 +80,6 @@ pub fn apply_subtract_green_transform(image: &mut [u8], width: usize, height: us
     let mut y = 0;
     while y < height {
         rebuild_row_at(image, width, height, y);
-        y += 1;
-    }
-}
-
-pub fn store_subtract_green_transform(picture: &[u8], strip: &mut [u8], width: usize, height: usize)
-    requires { ⌜ Sized width height ⌝ }
-    requires { ⌜ Holds width height (now picture) × Holds width height (now strip) ⌝ }
-    ensures { λ _. ⌜ now (strip .exit) ≡ written (height * width) (greenStored (pixels (now (picture .entry)))) (now (strip .entry)) ⌝ }
-{
-    let mut y = 0;
-    while y < height {
-        store_row_at(picture, strip, width, height, y);
         y += 1;
     }
 }

@@ -1,89 +1,105 @@
--- Indices packed into a byte, highest first, and records of a row.
-use mathlib.Core.Path.{_≡_, refl, ap, _∙_}
-use Prim.Native.Nat.{ℕ, zero, suc, _+_, _-_, _*_, _^_, _<_, _≤_}
-use native.Mathlib.Nat.{add-zero, mul-comm, add-comm, pow-zero, pow-suc, pow-le-pow-right, mod-eq-of-lt, div-eq-of-lt, mul-le-mul}
+-- Indices packed into a byte, lowest first.
+use mathlib.Core.Bool.{Bool, true, false}
+use mathlib.Core.List.{List}
+use mathlib.Core.Path.{_≡_, refl, sym, ap, _∙_}
+use Prim.Native.Nat.{ℕ, zero, suc, _+_, _-_, _*_, _/_, _^_, _<_, _≤_}
+use native.Mathlib.Nat.{add-assoc, mul-add, mul-assoc, one-mul, pow-zero, pow-suc, pow-succ', pow-le-pow-right, mul-le-mul, mul-le-mul-left, mul-suc}
 use native.Mathlib.Omega.{arith}
-use borrow.Author.Tests.{ltb-true}
-use lib.Dec.{ltb}
-use lib.Arith.{digits-lt, digits-div, digits-mod}
-use Rattle.format.specs.declared.Pixel.{Pixel}
-use Rattle.format.specs.Pixel.{pixel}
-use Rattle.format.specs.Picture.{Picture}
-use Rattle.format.specs.ColorTable.{perPixel, range, packedWidth, indexOf, digits, indexAt, packed}
-use Rattle.format.proofs.Choice.{if-same}
-use Rattle.color_table.specs.Pack.{rowIndices}
+use borrow.Author.Tests.{leb-true, le-leb, lt-leb}
+use lib.Dec.{leb, lit<}
+use Rattle.format.specs.Choice.{if_then_else_}
+use Rattle.format.specs.ColorTable.{perPixel, range, lowest, digits, packed}
+use Rattle.color_table.specs.Pack.{Row}
 
-digits-same : (u n : ℕ) (g h : ℕ → ℕ) → ((k : ℕ) → g k ≡ h k) → digits u n g ≡ digits u n h
+-- n indices to the base u go into a byte
+pub record Base (size n u : ℕ) : Type 0 where
+  pub fits : size ≤ u
+  pub two : 2 ≤ u
+  pub most : u ≤ 256
+  pub some : 1 ≤ n
+  pub few : n ≤ 8
+  pub whole : u ^ n ≡ 256
+  pub eight : 8 / n * n ≡ 8
+  pub gap : (n ≡ 8 → ⊥) → (n ≤ 4) × (n ≡ 3 → ⊥)
+  pub ones : (x : ℕ) → x < u → (x * (255 / (u - 1)) < 256) × (x * (255 / (u - 1)) ≡ digits u n (λ k. x))
+
+pub base-of : (size n u : ℕ) → size ≤ 256 → n ≡ perPixel size → u ≡ range n → Base size n u
+unfolding perPixel digits
+base-of size n u l p q =
+    rw (q, p) (go (leb size 2) (leb size 4) (leb size 16) (leb-true size 2) (leb-true size 4) (leb-true size 16))
+  where
+    go : (a b c : Bool) → (a ≡ true → size ≤ 2) → (b ≡ true → size ≤ 4) → (c ≡ true → size ≤ 16)
+        → Base size (if a then 8 else if b then 4 else if c then 2 else 1) (range (if a then 8 else if b then 4 else if c then 2 else 1))
+    go true b c x y z = record { fits = x refl; two = lit< tt; most = lit< tt; some = lit< tt; few = lit< tt; whole = refl; eight = refl; gap = λ d. (omega arith, (λ q. omega arith)); ones = λ x h. (omega arith, omega arith) }
+    go false true c x y z = record { fits = y refl; two = lit< tt; most = lit< tt; some = lit< tt; few = lit< tt; whole = refl; eight = refl; gap = λ d. (omega arith, (λ q. omega arith)); ones = λ x h. (omega arith, omega arith) }
+    go false false true x y z = record { fits = z refl; two = lit< tt; most = lit< tt; some = lit< tt; few = lit< tt; whole = refl; eight = refl; gap = λ d. (omega arith, (λ q. omega arith)); ones = λ x h. (omega arith, omega arith) }
+    go false false false x y z = record { fits = l; two = lit< tt; most = lit< tt; some = lit< tt; few = lit< tt; whole = refl; eight = refl; gap = λ d. (omega arith, (λ q. omega arith)); ones = λ x h. (omega arith, omega arith) }
+
+-- how many indices a record holds, by the table's size
+
+module _ (size : ℕ) where
+  pub eight-places : size ≤ 2 → 8 ≡ perPixel size
+  unfolding perPixel
+  eight-places l = rw (le-leb size 2 l)
+
+  pub four-places : 2 < size → size ≤ 4 → 4 ≡ perPixel size
+  unfolding perPixel
+  four-places a l = rw (lt-leb size 2 a, le-leb size 4 l)
+
+  pub two-places : 4 < size → size ≤ 16 → 2 ≡ perPixel size
+  unfolding perPixel
+  two-places a l = let b : 2 < size = omega arith in rw (lt-leb size 2 b, lt-leb size 4 a, le-leb size 16 l)
+
+  pub one-place : 16 < size → 1 ≡ perPixel size
+  unfolding perPixel
+  one-place a = let b : 2 < size = omega arith in let c : 4 < size = omega arith in rw (lt-leb size 2 b, lt-leb size 4 c, lt-leb size 16 a)
+
+-- a row at the number that n is
+pub row-at : (m size w n u : ℕ) (entries row : List ℕ) → n ≡ m → Row size w n u entries row → Row size w m (range m) entries row
+row-at m size w n u entries row q r = record { wide = r .wide; narrow = r .narrow; there = r .there; taken = r .taken; places = sym q ∙ r .places; base = refl }
+
+-- digits
+
+pub digits-same : (u n : ℕ) (g h : ℕ → ℕ) → ((k : ℕ) → k < n → g k ≡ h k) → digits u n g ≡ digits u n h
 unfolding digits
 digits-same u zero g h q = refl
-digits-same u (suc n) g h q = cc (q 0, digits-same u n (λ k. g (suc k)) (λ k. h (suc k)) (λ k. q (suc k)))
+digits-same u (suc n) g h q = cc (q 0 (omega arith), digits-same u n (λ k. g (suc k)) (λ k. h (suc k)) (λ k l. q (suc k) (omega arith)))
 
--- digits from number k on
-unfoldable pub digitsFrom : (ℕ → ℕ) → ℕ → ℕ → ℕ
-digitsFrom g k i = g (k + i)
-
-pub digits-none : (u n : ℕ) (g : ℕ → ℕ) → 0 ≡ digits u (n - n) (digitsFrom g n)
+-- one digit more at the high end
+digits-last : (u k : ℕ) (g : ℕ → ℕ) → digits u (suc k) g ≡ digits u k g + u ^ k * g k
 unfolding digits
-digits-none u n g = let z : n - n ≡ 0 = omega arith in rw z
+digits-last u zero g = let p : u ^ 0 * g 0 ≡ g 0 = ap (λ (z : ℕ). z * g 0) (pow-zero u) ∙ one-mul (g 0) in rw p (omega arith)
+digits-last u (suc k) g =
+    let d = digits u k (λ j. g (suc j)) in
+    let r : digits u (suc k) (λ j. g (suc j)) ≡ d + u ^ k * g (suc k) = digits-last u k (λ j. g (suc j)) in
+    let p : u * (u ^ k * g (suc k)) ≡ u ^ suc k * g (suc k) = sym (mul-assoc u (u ^ k) (g (suc k))) ∙ ap (λ (z : ℕ). z * g (suc k)) (sym (pow-succ' u k)) in
+    ap (λ (z : ℕ). g 0 + u * z) r ∙ ap (λ (z : ℕ). g 0 + z) (mul-add u d (u ^ k * g (suc k)) ∙ ap (λ (z : ℕ). u * d + z) p) ∙ sym (add-assoc (g 0) (u * d) (u ^ suc k * g (suc k)))
 
-pub digits-turn : (u n k j b x : ℕ) (g : ℕ → ℕ) → b ≡ digits u (n - k) (digitsFrom g k) → x ≡ g j → k ≡ suc j → k ≤ n → b * u + x ≡ digits u (n - j) (digitsFrom g j)
-unfolding digits digitsFrom
-digits-turn u n k j b x g q r s l =
-    let m : n - j ≡ suc (n - k) = omega arith in
-    let z : j + 0 ≡ j = add-zero j in
-    let same : digits u (n - k) (λ i. g (j + suc i)) ≡ digits u (n - k) (λ i. g (k + i)) =
-    digits-same u (n - k) (λ i. g (j + suc i)) (λ i. g (k + i)) (λ i. let w : j + suc i ≡ k + i = omega arith in ap g w) in
-    let e : b * u + x ≡ x + u * b = add-comm (b * u) x ∙ ap (λ (y : ℕ). x + y) (mul-comm b u) in
-    let t : x + u * b ≡ g (j + 0) + u * digits u (n - k) (λ i. g (j + suc i)) = cc in
-    rw m (e ∙ t)
+-- before the first digit, at one more, and at the last
 
-pub digits-done : (u n k b : ℕ) (g : ℕ → ℕ) → b ≡ digits u (n - k) (digitsFrom g k) → k ≡ 0 → b ≡ digits u n g
-unfolding digitsFrom
-digits-done u n k b g q z =
-    let m : n - k ≡ n = omega arith in
-    q ∙ ap (λ (y : ℕ). digits u y (λ i. g (k + i))) m ∙ digits-same u n (λ i. g (k + i)) g (λ i. let w : k + i ≡ i = omega arith in ap g w)
+pub digits-none : (u : ℕ) (g : ℕ → ℕ) → 0 ≡ digits u 0 g
+unfolding digits
+digits-none u g = refl
 
--- a number of m digits
-pub small-none : (u n : ℕ) → 0 < u ^ (n - n)
-small-none u n = let z : n - n ≡ 0 = omega arith in rw (z, pow-zero u) (omega arith)
+pub digits-more : (u k b w x : ℕ) (g : ℕ → ℕ) → b ≡ digits u k g → w ≡ u ^ k → x ≡ g k → b + w * x ≡ digits u (k + 1) g
+digits-more u k b w x g p q r =
+    let s : suc k ≡ k + 1 = omega arith in
+    let e : b + w * x ≡ digits u k g + u ^ k * g k = cc in
+    e ∙ sym (digits-last u k g) ∙ ap (λ (n : ℕ). digits u n g) s
 
-pub small-turn : (u n k j b x : ℕ) → b < u ^ (n - k) → x < u → k ≡ suc j → k ≤ n → b * u + x < u ^ (n - j)
-small-turn u n k j b x h l s t =
-    let m : n - j ≡ suc (n - k) = omega arith in
-    rw (m, pow-suc u (n - k)) (digits-lt h l)
+pub weight-more : (u k w : ℕ) → w ≡ u ^ k → w * u ≡ u ^ (k + 1)
+weight-more u k w q =
+    let s : suc k ≡ k + 1 = omega arith in
+    ap (λ (z : ℕ). z * u) q ∙ sym (pow-suc u k) ∙ ap (λ (n : ℕ). u ^ n) s
 
-pub small-byte : (u n m b : ℕ) → b < u ^ m → 0 < u → m ≤ n → u ^ n ≡ 256 → b < 256
-small-byte u n m b h pos l q = let p = pow-le-pow-right pos l in omega arith
+pub weight-small : (u k n w : ℕ) → w ≡ u ^ k → u ^ n ≡ 256 → 2 ≤ u → k ≤ n → w ≤ 256
+weight-small u k n w q e t l = let p : u ^ k ≤ u ^ n = pow-le-pow-right (omega arith) l in omega arith
 
-pub small-product : (b u : ℕ) → b < 256 → u ≤ 256 → b * u ≤ 65536
-small-product b u h l = mul-le-mul {n₁ = b} {m₁ = u} {n₂ = 256} {m₂ = 256} (omega arith) l
+pub small-more : (u b w x : ℕ) → b < w → x < u → b + w * x < w * u
+small-more u b w x l m =
+    let s : w * suc x ≡ w * x + w = mul-suc w x in
+    let p : w * suc x ≤ w * u = mul-le-mul-left w m in
+    omega arith
 
--- records
-
--- record j of a row by itself
-pub packed-row : (w size : ℕ) (e f : Picture) (j : ℕ) → j < packedWidth size w → pixel 0 (digits (range (perPixel size)) (perPixel size) (rowIndices w size e f (j * perPixel size))) 0 255 ≡ packed w size e f j
-unfolding packed rowIndices
-packed-row w size e f j l =
-    let n = perPixel size in
-    let z : (x : ℕ) → x ≡ 0 * w + x = λ x. omega arith in
-    rw (mod-eq-of-lt l, div-eq-of-lt l)
-    (ap (λ (d : ℕ). pixel 0 d 0 255)
-    (digits-same (range n) n (rowIndices w size e f (j * n)) (λ k. indexAt w size e f 0 (j * n + k)) (λ k. if-same (ltb (j * n + k) w) (λ t. ap (λ (x : ℕ). indexOf size e (f x)) (z (j * n + k))) (λ t. refl))))
-
-pub record-row : (w size : ℕ) (e f : Picture) (n u j : ℕ) (v : Pixel) → v ≡ pixel 0 (digits u n (rowIndices w size e f (j * n))) 0 255 → n ≡ perPixel size → u ≡ range (perPixel size) → j < packedWidth size w
-    → v ≡ packed w size e f j
-record-row w size e f n u j v q p r l = q ∙ rw (p, r) (packed-row w size e f j l)
-
--- and in the picture, where the row is row y of it
-pub packed-in : (w size y : ℕ) (e f g : Picture) (j : ℕ) → j < packedWidth size w → ((x : ℕ) → x < w → f x ≡ g (y * w + x)) → packed w size e f j ≡ packed w size e g (y * packedWidth size w + j)
-unfolding packed
-packed-in w size y e f g j l h =
-    let n = perPixel size in
-    let z : (x : ℕ) → 0 * w + x ≡ x = λ x. omega arith in
-    rw (mod-eq-of-lt l, div-eq-of-lt l, digits-div y l, digits-mod y l)
-    (ap (λ (d : ℕ). pixel 0 d 0 255)
-    (digits-same (range n) n (λ k. indexAt w size e f 0 (j * n + k)) (λ k. indexAt w size e g y (j * n + k))
-    (λ k. if-same (ltb (j * n + k) w) (λ t. ap (λ (x : ℕ). indexOf size e (f x)) (z (j * n + k)) ∙ ap (indexOf size e) (h (j * n + k) (ltb-true (j * n + k) w t))) (λ t. refl))))
-
-pub column-small : (j n : ℕ) → j ≤ 16384 → n ≤ 8 → j * n ≤ 131072
-column-small j n h l = mul-le-mul {n₁ = j} {m₁ = n} {n₂ = 16384} {m₂ = 8} h l
+pub small-product : (b u : ℕ) → b ≤ 256 → u ≤ 256 → b * u ≤ 65536
+small-product b u h l = mul-le-mul {n₁ = b} {m₁ = u} {n₂ = 256} {m₂ = 256} h l

@@ -1,9 +1,9 @@
 -- The lowest index of a pixel, by looking at each entry and by a hint.
-use mathlib.Core.Bool.{Bool, true, false}
+use mathlib.Core.Bool.{Bool, true, false, _&&_, _||_}
 use mathlib.Core.List.{List}
 use mathlib.Core.Path.{_≡_, refl, sym, ap, _∙_}
-use Prim.Native.Nat.{ℕ, suc, _+_, _-_, _<_, _≤_}
-use native.Mathlib.Nat.{zero-add}
+use Prim.Native.Nat.{ℕ, zero, suc, _+_, _-_, _*_, _<_, _≤_}
+use native.Mathlib.Nat.{zero-add, add-zero}
 use native.Mathlib.Decide.{ℕ-discrete, decLt}
 use native.Mathlib.Omega.{arith}
 use borrow.Author.Tests.{lt-ltb, le-ltb, ltb-true}
@@ -14,10 +14,10 @@ use Rattle.format.specs.Choice.{if_then_else_}
 use Rattle.format.specs.Pixel.{equal}
 use Rattle.format.specs.Picture.{Picture, byteAt}
 use Rattle.format.specs.ColorTable.{lowest, indexOf, hasEntry, accepted}
-use Rattle.format.proofs.Choice.{every-at, and-both}
-use Rattle.format.proofs.Pixels.{equal-true}
+use Rattle.format.proofs.Choice.{every-at, and-both, and-left, and-right}
+use Rattle.format.proofs.Pixels.{equal-true, equal-refl}
 use Rattle.format.proofs.ColorTable.{lowest-hit, lowest-least}
-use Rattle.color_table.specs.Pack.{Hints, rowIndices}
+use Rattle.color_table.specs.Pack.{Hints, oneOf, EachOf, rowIndices}
 
 -- looking at each entry
 
@@ -60,6 +60,15 @@ module _ (size : ℕ) (e : Picture) where
       let h : e (indexOf size e v) ≡ v = lowest-hit e v size 0 (rw (zero-add size, ← q) l) in
       ap (λ (j : ℕ). indexOf size e (e j)) q ∙ ap (indexOf size e) h ∙ sym q
 
+  -- an entry has an index
+  pub own-index : (i k : ℕ) (w : Pixel) → w ≡ e i → k ≡ indexOf size e w → i < size → k < size
+  own-index i k w q r l =
+      let m : indexOf size e w ≤ i = lowest-least e w size 0 i (omega arith) (sym q) (omega arith) in
+      omega arith
+
+  pub entry-accepted : (i : ℕ) (w : Pixel) → w ≡ e i → i < size → hasEntry size e w ≡ true
+  entry-accepted i w q l = lt-ltb (indexOf size e w) size (own-index i (indexOf size e w) w q refl l)
+
   pub hints-none : (hs : List ℕ) → length hs ≡ 4096 → ((s : ℕ) → byteAt hs s ≡ 0) → 1 ≤ size → Hints size e hs
   hints-none hs l z pos =
       let first : indexOf size e (e 0) ≤ 0 = lowest-least e (e 0) size 0 0 (omega arith) refl (omega arith) in
@@ -95,7 +104,43 @@ module _ (size : ℕ) (e : Picture) where
           rw (p, List·getD-eq-default (set hs s k) 0 {n = s} (omega arith)) (rw d at (h .least s))
       least j (no u) (no n) = rw (getD-set-other hs s j k 0 n) (h .least j)
 
+-- pixels that are one of two
+
+module _ (u v : Pixel) (f : Picture) (i : ℕ) where
+  pub each-more : (k : ℕ) (all s t : Bool) (p : Pixel) → (all ≡ true → EachOf u v f i k) → p ≡ f (i + k) → s ≡ equal p u → t ≡ equal p v → (all && (s || t)) ≡ true → EachOf u v f i (k + 1)
+  each-more k all s t p h q a b r j l = go (ℕ-discrete j k)
+    where
+      go : Dec (j ≡ k) → oneOf u v (f (i + j)) ≡ true
+      go (yes e) = rw (e, ← q, ← a, ← b) (and-right all (s || t) r)
+      go (no n) = h (and-left all (s || t) r) j (omega arith)
+
+  -- a test that both pass
+  pub each-passes : (n : ℕ) (t : Pixel → Bool) → EachOf u v f i n → t u ≡ true → t v ≡ true → (k : ℕ) → k < n → t (f (i + k)) ≡ true
+  each-passes n t h a b k l = go (equal (f (i + k)) u) refl (equal (f (i + k)) v) refl (h k l)
+    where
+      go : (x : Bool) → equal (f (i + k)) u ≡ x → (y : Bool) → equal (f (i + k)) v ≡ y → (x || y) ≡ true → t (f (i + k)) ≡ true
+      go true q y r o = ap t (equal-true (f (i + k)) u q) ∙ a
+      go false q true r o = ap t (equal-true (f (i + k)) v r) ∙ b
+      go false q false r o = absurd (omega (arith, no o))
+        where
+          no : false ≡ true → _≡_ {A = ℕ} 0 1
+          no e = cc
+
+-- eight pixels more that are v
+pub all-more : (v : Pixel) (f : Picture) (a g : ℕ) → ((q : ℕ) → a ≤ q → q < 8 * g → f q ≡ v) → EachOf v v f (8 * g) 8 → (q : ℕ) → a ≤ q → q < 8 * (g + 1) → f q ≡ v
+all-more v f a g h d q l u = go (decLt q (8 * g))
+  where
+    go : Dec (q < 8 * g) → f q ≡ v
+    go (yes k) = h q l k
+    go (no k) =
+        let e : 8 * g + (q - 8 * g) ≡ q = omega arith in
+        rw e at (equal-true (f (8 * g + (q - 8 * g))) v (each-passes v v f (8 * g) 8 (λ p. equal p v) d (equal-refl v) (equal-refl v) (q - 8 * g) (omega arith)))
+
 -- acceptance
+
+and-false : (a b : Bool) → false ≡ b → false ≡ (a && b)
+and-false true b q = q
+and-false false b q = refl
 
 module _ (size : ℕ) (e f : Picture) where
   pub accepted-more : (i k : ℕ) (u : Pixel) → accepted size e i f ≡ true → u ≡ f i → k ≡ indexOf size e u → k < size → accepted size e (i + 1) f ≡ true
@@ -114,18 +159,41 @@ module _ (size : ℕ) (e f : Picture) where
       go false r = refl
       go true r = sym lacks ∙ every-at m (λ j. hasEntry size e (f j)) i l r
 
+  -- n pixels more that are one of two
+  pub accepted-each : (u v : Pixel) (i n : ℕ) → EachOf u v f i n → accepted size e i f ≡ true → hasEntry size e u ≡ true → hasEntry size e v ≡ true → accepted size e (i + n) f ≡ true
+  accepted-each u v i zero h t a b = rw (add-zero i) t
+  accepted-each u v i (suc n) h t a b =
+      let s : i + suc n ≡ suc (i + n) = omega arith in
+      let r = accepted-each u v i n (λ k l. h k (omega arith)) t a b in
+      let p = each-passes u v f i (suc n) (hasEntry size e) h a b n (omega arith) in
+      ap (λ (m : ℕ). accepted size e m f) s ∙ and-both (hasEntry size e (f (i + n))) (accepted size e (i + n) f) p r
+
+  -- what is refused early stays so
+  pub accepted-fewer : (m n : ℕ) → accepted size e m f ≡ false → m ≤ n → false ≡ accepted size e n f
+  accepted-fewer m zero h l = let z : m ≡ 0 = omega arith in sym (rw z at h)
+  accepted-fewer m (suc n) h l = go (ℕ-discrete m (suc n)) (λ k. accepted-fewer m n h k)
+    where
+      go : Dec (m ≡ suc n) → (m ≤ n → false ≡ accepted size e n f) → false ≡ accepted size e (suc n) f
+      go (yes q) ih = sym (rw q at h)
+      go (no q) ih = and-false (hasEntry size e (f n)) (accepted size e n f) (ih (omega arith))
+
   pub accepted-done : (i m : ℕ) → accepted size e i f ≡ true → i ≡ m → true ≡ accepted size e m f
   accepted-done i m h q = sym (ap (λ (n : ℕ). accepted size e n f) (sym q) ∙ h)
 
   pub accepted-below : (m i : ℕ) → accepted size e m f ≡ true → i < m → indexOf size e (f i) < size
   accepted-below m i h l = ltb-true (indexOf size e (f i)) size (every-at m (λ j. hasEntry size e (f j)) i l h)
 
+  pub taken-below : (m x k : ℕ) (u : Pixel) → accepted size e m f ≡ true → u ≡ f x → k ≡ indexOf size e u → x < m → k < size
+  taken-below m x k u h p q l = rw (q, p) (accepted-below m x h l)
+
+  pub taken-entry : (m x : ℕ) (u : Pixel) → accepted size e m f ≡ true → u ≡ f x → x < m → hasEntry size e u ≡ true
+  taken-entry m x u h p l = rw p (every-at m (λ j. hasEntry size e (f j)) x l h)
+
   -- the index of a column, inside the row and past its end
   pub row-inside : (w a k r : ℕ) (u : Pixel) → accepted size e w f ≡ true → u ≡ f (a + k) → r ≡ indexOf size e u → a + k < w → (r ≡ rowIndices w size e f a k) × (r < size)
   unfolding rowIndices
   row-inside w a k r u h p q l =
-      let t : r ≡ indexOf size e (f (a + k)) = q ∙ ap (indexOf size e) p in
-      (rw (lt-ltb (a + k) w l) t, rw t (accepted-below w (a + k) h l))
+      (rw (lt-ltb (a + k) w l) (q ∙ ap (indexOf size e) p), taken-below w (a + k) r u h p q l)
 
   pub row-beyond : (w a k : ℕ) → w ≤ a + k → 0 ≡ rowIndices w size e f a k
   unfolding rowIndices

@@ -3,4 +3,5 @@ pub mod Rows
 pub mod Looked
 pub mod Index
 pub mod Digits
-pub mod Strip
+pub mod Words
+pub mod Records

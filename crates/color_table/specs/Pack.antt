@@ -1,26 +1,65 @@
--- The number of an answer, and the hints by which indices are found.
+-- Hints by which indices are found, and the records that packing a row writes.
+use mathlib.Core.Bool.{Bool, true, _||_}
 use mathlib.Core.List.{List}
 use mathlib.Core.Path.{_≡_}
-use Prim.Native.Nat.{ℕ, _+_, _<_}
+use Prim.Native.Nat.{ℕ, _+_, _-_, _*_, _/_, _<_, _≤_}
 use lib.Dec.{ltb}
 use lib.ListN.{length}
+use Rattle.format.specs.declared.Pixel.{Pixel}
 use Rattle.format.specs.Choice.{if_then_else_}
-use Rattle.format.specs.Picture.{Picture, byteAt}
-use Rattle.format.specs.ColorTable.{indexOf}
-use Rattle.color_table.specs.declared.pack.Packing.{Packing}
-use Rattle.color_table.specs.declared.pack.Packing.the-variants.{Stored, NoEntry}
-
--- the number that a call returns
-abbrev pub answer : Packing → ℕ
-answer Stored = 0
-answer NoEntry = 21
-
--- the index of column a + k of a row f; 0 past its end
-unfoldable pub rowIndices : ℕ → ℕ → Picture → Picture → ℕ → ℕ → ℕ
-rowIndices w size e f a k = if ltb (a + k) w then indexOf size e (f (a + k)) else 0
+use Rattle.format.specs.Pixel.{pixel, equal}
+use Rattle.format.specs.Picture.{Picture, byteAt, pixels}
+use Rattle.format.specs.ColorTable.{perPixel, range, indexOf, accepted, digits}
+use Rattle.pixel.specs.Cells.{pixelCells, run, given}
 
 -- every slot holds an index that is the lowest one of its entry
 pub record Hints (size : ℕ) (e : Picture) (hints : List ℕ) : Type 0 where
   pub full : length hints ≡ 4096
   pub below : (s : ℕ) → byteAt hints s < size
   pub least : (s : ℕ) → indexOf size e (e (byteAt hints s)) ≡ byteAt hints s
+
+-- a table with its hints
+pub record Table (size : ℕ) (entries hints : List ℕ) : Type 0 where
+  pub some : 1 ≤ size
+  pub most : size ≤ 256
+  pub there : 4 * size ≤ length entries
+  pub hinted : Hints size (pixels entries) hints
+
+-- the n pixels of f from i on are u or v each
+abbrev pub oneOf : Pixel → Pixel → Pixel → Bool
+oneOf u v p = equal p u || equal p v
+
+abbrev pub EachOf : Pixel → Pixel → Picture → ℕ → ℕ → Type 0
+EachOf u v f i n = (k : ℕ) → k < n → oneOf u v (f (i + k)) ≡ true
+
+-- a row of w pixels that have entries, n of which go into a record; u is one more than the largest index
+pub record Row (size w n u : ℕ) (entries row : List ℕ) : Type 0 where
+  pub wide : 1 ≤ w
+  pub narrow : w ≤ 16384
+  pub there : 4 * w ≤ length row
+  pub taken : accepted size (pixels entries) w (pixels row) ≡ true
+  pub places : n ≡ perPixel size
+  pub base : u ≡ range n
+
+-- the index of column a + k of a row f; 0 past its end
+unfoldable pub rowIndices : ℕ → ℕ → Picture → Picture → ℕ → ℕ → ℕ
+rowIndices w size e f a k = if ltb (a + k) w then indexOf size e (f (a + k)) else 0
+
+-- the same where a table has two entries, of which v is the first
+unfoldable pub differs : Pixel → Picture → ℕ → ℕ → ℕ
+differs v f a k = if equal v (f (a + k)) then 0 else 1
+
+-- the record of n pixels v
+unfoldable pub uniform : ℕ → ℕ → ℕ → Picture → Pixel → Pixel
+uniform u n size e v = pixel 0 (digits u n (λ k. indexOf size e v)) 0 255
+
+-- v at every index
+unfoldable pub plain : Pixel → Picture
+plain v i = v
+
+-- the groups of eight pixels from g up to r are all v, and have the record p, 8 / n times each
+pub record Filled (n g r groups : ℕ) (v p : Pixel) (f : Picture) (xs ys : List ℕ) : Type 0 where
+  pub from : g ≤ r
+  pub to : r ≤ groups
+  pub all : (q : ℕ) → 8 * g ≤ q → q < 8 * r → f q ≡ v
+  pub wrote : ys ≡ run pixelCells (given (plain p)) (g * (8 / n)) (r * (8 / n) - g * (8 / n)) xs

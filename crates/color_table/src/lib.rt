@@ -1,4 +1,5 @@
 // The color table: unpacking indices in place, and storing a picture as packed indices.
+pub mod find;
 pub mod pack;
 pub mod table;
 pub mod unpack;

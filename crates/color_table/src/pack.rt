@@ -1,105 +1,74 @@
-// Storing: pixels to indices, and indices packed into records of a strip. Acceptance is decided before the first byte is written.
-use crate::table::index_range;
-use crate::table::per_pixel;
+// Storing: pixels to indices, and indices packed into records of a strip. Pictures are runs of few colors, so that eight pixels at a time are compared
+// with the one before them, and looked up only where they differ.
+use crate::find::find;
+use crate::find::free_slot;
+use crate::find::no_hints;
+use crate::find::same;
+use crate::find::scan;
 use crate::unpack::Expanded;
-use crate::unpack::Packed;
-use crate::unpack::packed_width;
-use format::Pixel;
-use pixel::pixel::pixel_at;
-use pixel::pixel::put_pixel;
+use pixel::word::join;
+use pixel::word::put_word;
+use pixel::word::word_at;
 ghost use mathlib.Core.Path.{_≡_};
 ghost use mathlib.Core.Bool.{true};
-ghost use Prim.Native.Nat.{ℕ, _+_, _*_, _^_, _<_, _≤_};
+ghost use Prim.Native.Nat.{_+_, _-_, _*_, _/_, _%_, _<_, _≤_};
 ghost use lib.ListN.{length};
-ghost use Rattle.format.specs.Pixel.{pixel, equal};
-ghost use Rattle.format.specs.Picture.{Picture, pixels, written};
-ghost use Rattle.format.specs.ColorTable.{range, packedWidth, indexOf, hasEntry, accepted, digits, packed as packedOf, storedAnswer, storedStrip};
+ghost use Rattle.format.specs.Choice.{if_then_else_};
+ghost use Rattle.format.specs.Pixel.{pixel};
+ghost use Rattle.format.specs.Picture.{pixels, written};
+ghost use Rattle.format.specs.ColorTable.{packedWidth, accepted, digits, packed as packedOf};
 ghost use Rattle.pixel.specs.Cells.{pixelCells, run, given};
-ghost use Rattle.format.specs.Sizes.{Sized, Holds};
-ghost use Rattle.color_table.specs.Pack.{answer, rowIndices, Hints};
+ghost use Rattle.pixel.specs.Word.{unword};
+ghost use Rattle.color_table.specs.Pack.{Hints, Table, EachOf, Row, rowIndices, differs, uniform, plain, Filled};
 
-pub enum Packing {
-    // The picture is stored.
-    Stored,
-    // A pixel has no entry, and no byte has changed.
-    NoEntry,
-}
-
-fn same(u: Pixel, v: Pixel) -> bool
-    ensures { λ r. ⌜ r ≡ equal u v ⌝ }
+// Where entries are looked up: made once a picture.
+pub fn hints_of(entries: &[u8], size: usize) -> [u8; 4096]
+    requires { ⌜ (1 ≤ size) × (size ≤ 256) × (4 * size ≤ length (now entries)) ⌝ }
+    ensures { λ r. ⌜ Hints size (pixels (now (entries .entry))) r ⌝ }
 {
-    if u.red != v.red {
-        return false;
-    }
-    if u.green != v.green {
-        return false;
-    }
-    if u.blue != v.blue {
-        return false;
-    }
-    u.alpha == v.alpha
-}
-
-// The lowest index whose entry equals v, by looking at each; `size` where there is none.
-fn scan(entries: &[u8], size: usize, v: Pixel) -> usize
-    requires { ⌜ 4 * size ≤ length (now entries) ⌝ }
-    ensures { λ r. ⌜ r ≡ indexOf size (pixels (now (entries .entry))) v ⌝ }
-{
+    let mut hints = no_hints(entries, size);
     let mut i = 0;
     while i < size {
-        if same(pixel_at(entries, i), v) {
-            return i;
-        }
+        let w = word_at(entries, i);
+        let s = free_slot(&hints, w);
+        hints[s] = scan(entries, size, w) as u8;
         i += 1;
     }
-    size
+    hints
 }
 
-// A slot for v. Any slot is right, so that nothing is said of it but its range.
-fn slot(v: Pixel) -> usize
-    ensures { λ r. ⌜ r < 4096 ⌝ }
+// Whether each of the eight pixels from i on is a or b: with no branch, so that they are compared at once.
+fn eight_of(row: &[u8], i: usize, a: u32, b: u32) -> bool
+    requires { ⌜ 4 * (i + 8) ≤ length (now row) ⌝ }
+    ensures { λ r. ⌜ (r ≡ true → EachOf (unword a) (unword b) (pixels (now (row .entry))) i 8) ⌝ }
 {
-    let h = (v.red as usize) * 40503
-        + (v.green as usize) * 30323
-        + (v.blue as usize) * 25717
-        + (v.alpha as usize) * 19501;
-    h / 64 % 4096
-}
-
-// Hints to start with: slot by slot index 0, which is the lowest one of entry 0.
-pub fn no_hints() -> [u8; 4096]
-    ensures { λ r. ⌜ ((size : ℕ) → (e : Picture) → 1 ≤ size → Hints size e r) ⌝ }
-{
-    [0u8; 4096]
-}
-
-// The same index by a hint: where the slot's entry equals v, its index is the lowest one; where not, the entries are looked at and the slot takes the index.
-fn find(entries: &[u8], size: usize, hints: &mut [u8], v: Pixel) -> usize
-    requires { ⌜ (1 ≤ size) × (size ≤ 256) × (4 * size ≤ length (now entries)) ⌝ }
-    requires { ⌜ Hints size (pixels (now entries)) (now hints) ⌝ }
-    ensures { λ r. ⌜ (r ≡ indexOf size (pixels (now (entries .entry))) v) × Hints size (pixels (now (entries .entry))) (now (hints .exit)) ⌝ }
-{
-    let s = slot(v);
-    let i = hints[s] as usize;
-    if same(pixel_at(entries, i), v) {
-        return i;
+    let mut all = true;
+    let mut k = 0;
+    while k < 8 {
+        let w = word_at(row, i + k);
+        all = all & (same(w, a) | same(w, b));
+        k += 1;
     }
-    let k = scan(entries, size, v);
-    if k < size {
-        hints[s] = k as u8;
-    }
-    k
+    all
 }
 
-// Whether each of the first `count` pixels has an entry.
-pub fn accept(row: &[u8], count: usize, entries: &[u8], size: usize, hints: &mut [u8]) -> bool
-    requires { ⌜ (1 ≤ size) × (size ≤ 256) × (4 * size ≤ length (now entries)) × (4 * count ≤ length (now row)) ⌝ }
-    requires { ⌜ Hints size (pixels (now entries)) (now hints) ⌝ }
-    ensures { λ r. ⌜ (r ≡ accepted size (pixels (now (entries .entry))) count (pixels (now (row .entry)))) × Hints size (pixels (now (entries .entry))) (now (hints .exit)) ⌝ }
+// Whether each of the first `to` pixels has an entry, where those before `from` have.
+fn accept_each(
+    row: &[u8],
+    from: usize,
+    to: usize,
+    entries: &[u8],
+    size: usize,
+    hints: &[u8],
+) -> bool
+    requires { ⌜ Table size (now entries) (now hints) ⌝ }
+    requires { ⌜ (from ≤ to) × (4 * to ≤ length (now row)) ⌝ }
+    requires { ⌜ accepted size (pixels (now entries)) from (pixels (now row)) ≡ true ⌝ }
+    ensures { λ r. ⌜ r ≡ accepted size (pixels (now (entries .entry))) to (pixels (now (row .entry))) ⌝ }
 {
-    let mut i = 0;
-    while i < count {
-        if size <= find(entries, size, hints, pixel_at(row, i)) {
+    let mut i = from;
+    while i < to {
+        if size <= find(entries, size, hints, word_at(row, i)) {
             return false;
         }
         i += 1;
@@ -107,56 +76,74 @@ pub fn accept(row: &[u8], count: usize, entries: &[u8], size: usize, hints: &mut
     true
 }
 
-// The index of column a + k of a row; 0 past its end. A row has at most 16384 columns: the bound is any that keeps the sum in range.
+// The same from the first one on, by eight. a and b are the last two colors; at first they are entries, so that two colors are never looked up.
+fn accept_eights(row: &[u8], count: usize, entries: &[u8], size: usize, hints: &[u8]) -> bool
+    requires { ⌜ Table size (now entries) (now hints) ⌝ }
+    requires { ⌜ (count % 8 ≡ 0) × (4 * count ≤ length (now row)) ⌝ }
+    ensures { λ r. ⌜ r ≡ accepted size (pixels (now (entries .entry))) count (pixels (now (row .entry))) ⌝ }
+{
+    let mut a = word_at(entries, 0);
+    let mut b = word_at(entries, size - 1);
+    let mut i = 0;
+    while i < count {
+        if !eight_of(row, i, a, b) {
+            if !accept_each(row, i, i + 8, entries, size, hints) {
+                return false;
+            }
+            b = a;
+            a = word_at(row, i + 7);
+        }
+        i += 8;
+    }
+    true
+}
+
+// Whether each of the first `count` pixels has an entry.
+pub fn accept(row: &[u8], count: usize, entries: &[u8], size: usize, hints: &[u8]) -> bool
+    requires { ⌜ (1 ≤ size) × (size ≤ 256) × (4 * size ≤ length (now entries)) × (4 * count ≤ length (now row)) ⌝ }
+    requires { ⌜ Hints size (pixels (now entries)) (now hints) ⌝ }
+    ensures { λ r. ⌜ r ≡ accepted size (pixels (now (entries .entry))) count (pixels (now (row .entry))) ⌝ }
+{
+    let whole = count / 8 * 8;
+    if !accept_eights(row, whole, entries, size, hints) {
+        return false;
+    }
+    accept_each(row, whole, count, entries, size, hints)
+}
+
+fn record_of(b: u32) -> u32
+    requires { ⌜ b < 256 ⌝ }
+    ensures { λ r. ⌜ unword r ≡ pixel 0 b 0 255 ⌝ }
+{
+    join(0, b, 0, 255)
+}
+
+// The index of column a + k of a row; 0 past its end.
 fn index_at(
     row: &[u8],
     width: usize,
     a: usize,
     k: usize,
+    n: usize,
+    range: usize,
     entries: &[u8],
     size: usize,
-    hints: &mut [u8],
+    hints: &[u8],
 ) -> usize
-    requires { ⌜ (1 ≤ size) × (size ≤ 256) × (4 * size ≤ length (now entries)) × (4 * width ≤ length (now row)) × (a + k ≤ 1000000) ⌝ }
-    requires { ⌜ Hints size (pixels (now entries)) (now hints) ⌝ }
-    requires { ⌜ accepted size (pixels (now entries)) width (pixels (now row)) ≡ true ⌝ }
-    ensures { λ r. ⌜ (r ≡ rowIndices width size (pixels (now (entries .entry))) (pixels (now (row .entry))) a k) × (r < size) × Hints size (pixels (now (entries .entry))) (now (hints .exit)) ⌝ }
+    requires { ⌜ Table size (now entries) (now hints) ⌝ }
+    requires { ⌜ Row size width n range (now entries) (now row) ⌝ }
+    requires { ⌜ a + k ≤ 1000000 ⌝ }
+    ensures { λ r. ⌜ (r ≡ rowIndices width size (pixels (now (entries .entry))) (pixels (now (row .entry))) a k) × (r < range) ⌝ }
 {
     let x = a + k;
     if x < width {
-        find(entries, size, hints, pixel_at(row, x))
+        find(entries, size, hints, word_at(row, x))
     } else {
         0
     }
 }
 
-// The n indices from column a on in one byte, lowest first: the highest is taken first.
-fn pack_byte(
-    row: &[u8],
-    width: usize,
-    a: usize,
-    n: usize,
-    range: usize,
-    entries: &[u8],
-    size: usize,
-    hints: &mut [u8],
-) -> usize
-    requires { ⌜ (1 ≤ size) × (size ≤ 256) × (4 * size ≤ length (now entries)) × (4 * width ≤ length (now row)) × (a + n ≤ 1000000) ⌝ }
-    requires { ⌜ Hints size (pixels (now entries)) (now hints) ⌝ }
-    requires { ⌜ accepted size (pixels (now entries)) width (pixels (now row)) ≡ true ⌝ }
-    requires { ⌜ (size ≤ range) × (range ≤ 256) × (range ^ n ≡ 256) ⌝ }
-    ensures { λ r. ⌜ (r ≡ digits range n (rowIndices width size (pixels (now (entries .entry))) (pixels (now (row .entry))) a)) × (r < 256) × Hints size (pixels (now (entries .entry))) (now (hints .exit)) ⌝ }
-{
-    let mut b = 0;
-    let mut k = n;
-    while 0 < k {
-        k -= 1;
-        b = b * range + index_at(row, width, a, k, entries, size, hints);
-    }
-    b
-}
-
-// The record whose indices start at column a.
+// The record whose indices start at column a, lowest first. A row has at most 16384 columns: the bound is any that keeps sums in range.
 fn pack_record(
     row: &[u8],
     width: usize,
@@ -165,45 +152,45 @@ fn pack_record(
     range: usize,
     entries: &[u8],
     size: usize,
-    hints: &mut [u8],
-) -> Pixel
-    requires { ⌜ (1 ≤ size) × (size ≤ 256) × (4 * size ≤ length (now entries)) × (4 * width ≤ length (now row)) × (a + n ≤ 1000000) ⌝ }
-    requires { ⌜ Hints size (pixels (now entries)) (now hints) ⌝ }
-    requires { ⌜ accepted size (pixels (now entries)) width (pixels (now row)) ≡ true ⌝ }
-    requires { ⌜ (size ≤ range) × (range ≤ 256) × (range ^ n ≡ 256) ⌝ }
-    ensures { λ r. ⌜ (r ≡ pixel 0 (digits range n (rowIndices width size (pixels (now (entries .entry))) (pixels (now (row .entry))) a)) 0 255) × Hints size (pixels (now (entries .entry))) (now (hints .exit)) ⌝ }
+    hints: &[u8],
+) -> u32
+    requires { ⌜ Table size (now entries) (now hints) ⌝ }
+    requires { ⌜ Row size width n range (now entries) (now row) ⌝ }
+    requires { ⌜ a ≤ 900000 ⌝ }
+    ensures { λ r. ⌜ unword r ≡ pixel 0 (digits range n (rowIndices width size (pixels (now (entries .entry))) (pixels (now (row .entry))) a)) 0 255 ⌝ }
 {
-    let b = pack_byte(row, width, a, n, range, entries, size, hints);
-    Pixel {
-        red: 0,
-        green: b as u8,
-        blue: 0,
-        alpha: 255,
+    let mut b = 0;
+    let mut weight = 1;
+    let mut k = 0;
+    while k < n {
+        b = b + weight * index_at(row, width, a, k, n, range, entries, size, hints);
+        weight = weight * range;
+        k += 1;
     }
+    record_of(b as u32)
 }
 
-// A row of accepted pixels, packed at the front of `out`.
-pub fn pack_row(
+// Records `from` up to `to`.
+fn pack_each(
     row: &[u8],
-    expanded: Expanded,
+    width: usize,
     out: &mut [u8],
+    from: usize,
+    to: usize,
+    n: usize,
+    range: usize,
     entries: &[u8],
     size: usize,
-    hints: &mut [u8],
+    hints: &[u8],
 )
-    requires { ⌜ (1 ≤ size) × (size ≤ 256) × (4 * size ≤ length (now entries)) × (1 ≤ expanded .0) × (expanded .0 ≤ 16384) × (4 * expanded .0 ≤ length (now row)) × (4 * packedWidth size (expanded .0) ≤ length (now out)) ⌝ }
-    requires { ⌜ Hints size (pixels (now entries)) (now hints) ⌝ }
-    requires { ⌜ accepted size (pixels (now entries)) (expanded .0) (pixels (now row)) ≡ true ⌝ }
-    ensures { λ _. ⌜ (now (out .exit) ≡ written (packedWidth size (expanded .0)) (packedOf (expanded .0) size (pixels (now (entries .entry))) (pixels (now (row .entry)))) (now (out .entry))) × Hints size (pixels (now (entries .entry))) (now (hints .exit)) ⌝ }
+    requires { ⌜ Table size (now entries) (now hints) ⌝ }
+    requires { ⌜ Row size width n range (now entries) (now row) ⌝ }
+    requires { ⌜ (from ≤ to) × (to ≤ packedWidth size width) × (4 * to ≤ length (now out)) ⌝ }
+    ensures { λ _. ⌜ now (out .exit) ≡ run pixelCells (given (packedOf width size (pixels (now (entries .entry))) (pixels (now (row .entry))))) from (to - from) (now (out .entry)) ⌝ }
 {
-    let width = expanded.0;
-    let n = per_pixel(size);
-    let range = index_range(size);
-    let columns = packed_width(expanded, size);
-    let count = columns.0;
-    let mut j = 0;
-    while j < count {
-        put_pixel(
+    let mut j = from;
+    while j < to {
+        put_word(
             out,
             j,
             pack_record(row, width, j * n, n, range, entries, size, hints),
@@ -212,89 +199,303 @@ pub fn pack_row(
     }
 }
 
-// Row y of a picture, packed at its place in the strip.
-fn pack_row_at(
-    picture: &[u8],
-    strip: &mut [u8],
-    y: usize,
-    packed: Packed,
-    expanded: Expanded,
+// The same where a record holds one index, so that no sum is made.
+fn pack_singles(
+    row: &[u8],
+    width: usize,
+    out: &mut [u8],
+    from: usize,
+    to: usize,
     entries: &[u8],
     size: usize,
-    hints: &mut [u8],
+    hints: &[u8],
 )
-    requires { ⌜ (1 ≤ size) × (size ≤ 256) × (4 * size ≤ length (now entries)) × (1 ≤ expanded .0) × (expanded .0 ≤ 16384) × (packed .0 ≡ packedWidth size (expanded .0)) × (4 * (y * expanded .0 + expanded .0) ≤ length (now picture)) × (4 * (y * packed .0 + packed .0) ≤ length (now strip)) ⌝ }
-    requires { ⌜ Hints size (pixels (now entries)) (now hints) ⌝ }
-    requires { ⌜ ((x : ℕ) → x < expanded .0 → hasEntry size (pixels (now entries)) (pixels (now picture) (y * expanded .0 + x)) ≡ true) ⌝ }
-    ensures { λ _. ⌜ (now (strip .exit) ≡ run pixelCells (given (packedOf (expanded .0) size (pixels (now (entries .entry))) (pixels (now (picture .entry))))) (y * packed .0) (packed .0) (now (strip .entry))) × Hints size (pixels (now (entries .entry))) (now (hints .exit)) ⌝ }
+    requires { ⌜ Table size (now entries) (now hints) ⌝ }
+    requires { ⌜ Row size width 1 256 (now entries) (now row) ⌝ }
+    requires { ⌜ (from ≤ to) × (to ≤ width) × (4 * to ≤ length (now out)) ⌝ }
+    ensures { λ _. ⌜ now (out .exit) ≡ run pixelCells (given (packedOf width size (pixels (now (entries .entry))) (pixels (now (row .entry))))) from (to - from) (now (out .entry)) ⌝ }
 {
-    let w = expanded.0;
-    let c = packed.0;
-    let a = 4 * (y * w);
-    let b = 4 * (y * w + w);
-    let from = 4 * (y * c);
-    let to = 4 * (y * c + c);
-    pack_row(
-        &picture[a..b],
-        expanded,
-        &mut strip[from..to],
-        entries,
-        size,
-        hints,
-    );
+    let mut j = from;
+    while j < to {
+        let i = find(entries, size, hints, word_at(row, j));
+        put_word(out, j, record_of(i as u32));
+        j += 1;
+    }
 }
 
-// The rows of an accepted picture.
-fn pack_rows(
-    picture: &[u8],
-    strip: &mut [u8],
+// The same for any n.
+fn pack_records(
+    row: &[u8],
     width: usize,
-    height: usize,
+    out: &mut [u8],
+    from: usize,
+    to: usize,
+    n: usize,
+    range: usize,
     entries: &[u8],
     size: usize,
-    hints: &mut [u8],
+    hints: &[u8],
 )
-    requires { ⌜ Sized width height ⌝ }
-    requires { ⌜ (1 ≤ size) × (size ≤ 256) × (4 * size ≤ length (now entries)) × Holds width height (now picture) × (4 * (height * packedWidth size width) ≤ length (now strip)) ⌝ }
-    requires { ⌜ Hints size (pixels (now entries)) (now hints) ⌝ }
-    requires { ⌜ accepted size (pixels (now entries)) (height * width) (pixels (now picture)) ≡ true ⌝ }
-    ensures { λ _. ⌜ now (strip .exit) ≡ written (height * packedWidth size width) (packedOf width size (pixels (now (entries .entry))) (pixels (now (picture .entry)))) (now (strip .entry)) ⌝ }
+    requires { ⌜ Table size (now entries) (now hints) ⌝ }
+    requires { ⌜ Row size width n range (now entries) (now row) ⌝ }
+    requires { ⌜ (from ≤ to) × (to ≤ packedWidth size width) × (4 * to ≤ length (now out)) ⌝ }
+    ensures { λ _. ⌜ now (out .exit) ≡ run pixelCells (given (packedOf width size (pixels (now (entries .entry))) (pixels (now (row .entry))))) from (to - from) (now (out .entry)) ⌝ }
 {
-    let packed = packed_width(Expanded(width), size);
-    let mut y = 0;
-    while y < height {
-        pack_row_at(
-            picture,
-            strip,
-            y,
-            packed,
-            Expanded(width),
+    if n == 1 {
+        pack_singles(row, width, out, from, to, entries, size, hints);
+    } else {
+        pack_each(row, width, out, from, to, n, range, entries, size, hints);
+    }
+}
+
+// One record m times.
+fn fill(out: &mut [u8], j: usize, m: usize, w: u32)
+    requires { ⌜ 4 * (j + m) ≤ length (now out) ⌝ }
+    ensures { λ _. ⌜ now (out .exit) ≡ run pixelCells (given (plain (unword w))) j m (now (out .entry)) ⌝ }
+{
+    let mut k = 0;
+    while k < m {
+        put_word(out, j + k, w);
+        k += 1;
+    }
+}
+
+// How many groups of eight pixels are packed, the pixel before the next one, and the record of n such pixels.
+struct Last {
+    groups: usize,
+    word: u32,
+    packed: u32,
+}
+
+// Column x as the last pixel.
+fn last_of(
+    row: &[u8],
+    width: usize,
+    groups: usize,
+    x: usize,
+    n: usize,
+    range: usize,
+    entries: &[u8],
+    size: usize,
+    hints: &[u8],
+) -> Last
+    requires { ⌜ Table size (now entries) (now hints) ⌝ }
+    requires { ⌜ Row size width n range (now entries) (now row) ⌝ }
+    requires { ⌜ x < width ⌝ }
+    ensures { λ r. ⌜ (r .groups ≡ groups) × (unword (r .packed) ≡ uniform range n size (pixels (now (entries .entry))) (unword (r .word))) ⌝ }
+{
+    let w = word_at(row, x);
+    let i = find(entries, size, hints, w);
+    Last {
+        groups: groups,
+        word: w,
+        packed: record_of((i * (255 / (range - 1))) as u32),
+    }
+}
+
+// The groups that are the last pixel again, and how many are packed then.
+fn fill_groups(row: &[u8], out: &mut [u8], groups: usize, n: usize, last: Last) -> usize
+    requires { ⌜ (1 ≤ n) × (last .groups ≤ groups) × (32 * groups ≤ length (now row)) × (4 * (groups * (8 / n)) ≤ length (now out)) ⌝ }
+    ensures { λ r. ⌜ Filled n (last .groups) r groups (unword (last .word)) (unword (last .packed)) (pixels (now (row .entry))) (now (out .entry)) (now (out .exit)) ⌝ }
+{
+    let m = 8 / n;
+    let mut g = last.groups;
+    while g < groups {
+        if !eight_of(row, 8 * g, last.word, last.word) {
+            return g;
+        }
+        fill(out, g * m, m, last.packed);
+        g += 1;
+    }
+    g
+}
+
+// The same: in each arm n is a constant, for which the loop is compiled.
+fn fill_run(row: &[u8], out: &mut [u8], groups: usize, n: usize, last: Last) -> usize
+    requires { ⌜ (1 ≤ n) × (n ≤ 4) × (n ≡ 3 → ⊥) ⌝ }
+    requires { ⌜ (last .groups ≤ groups) × (32 * groups ≤ length (now row)) × (4 * (groups * (8 / n)) ≤ length (now out)) ⌝ }
+    ensures { λ r. ⌜ Filled n (last .groups) r groups (unword (last .word)) (unword (last .packed)) (pixels (now (row .entry))) (now (out .entry)) (now (out .exit)) ⌝ }
+{
+    if n == 1 {
+        fill_groups(row, out, groups, 1, last)
+    } else if n == 2 {
+        fill_groups(row, out, groups, 2, last)
+    } else {
+        fill_groups(row, out, groups, 4, last)
+    }
+}
+
+// The groups that are the last pixel again, and the one after them.
+fn pack_run(
+    row: &[u8],
+    width: usize,
+    out: &mut [u8],
+    groups: usize,
+    n: usize,
+    range: usize,
+    last: Last,
+    entries: &[u8],
+    size: usize,
+    hints: &[u8],
+) -> Last
+    requires { ⌜ Table size (now entries) (now hints) ⌝ }
+    requires { ⌜ Row size width n range (now entries) (now row) ⌝ }
+    requires { ⌜ (n ≡ 8 → ⊥) × (last .groups < groups) × (8 * groups ≤ width) × (4 * (groups * (8 / n)) ≤ length (now out)) ⌝ }
+    requires { ⌜ unword (last .packed) ≡ uniform range n size (pixels (now entries)) (unword (last .word)) ⌝ }
+    ensures { λ r. ⌜ (last .groups < r .groups) × (r .groups ≤ groups) × (unword (r .packed) ≡ uniform range n size (pixels (now (entries .entry))) (unword (r .word))) × (now (out .exit) ≡ run pixelCells (given (packedOf width size (pixels (now (entries .entry))) (pixels (now (row .entry))))) (last .groups * (8 / n)) (r .groups * (8 / n) - last .groups * (8 / n)) (now (out .entry))) ⌝ }
+{
+    let g = fill_run(row, out, groups, n, last);
+    if groups <= g {
+        return Last {
+            groups: g,
+            word: last.word,
+            packed: last.packed,
+        };
+    }
+    let m = 8 / n;
+    let j = g * m;
+    pack_records(row, width, out, j, j + m, n, range, entries, size, hints);
+    last_of(row, width, g + 1, 8 * g + 7, n, range, entries, size, hints)
+}
+
+// The first `groups` groups of eight pixels.
+fn pack_eights(
+    row: &[u8],
+    width: usize,
+    out: &mut [u8],
+    groups: usize,
+    n: usize,
+    range: usize,
+    entries: &[u8],
+    size: usize,
+    hints: &[u8],
+)
+    requires { ⌜ Table size (now entries) (now hints) ⌝ }
+    requires { ⌜ Row size width n range (now entries) (now row) ⌝ }
+    requires { ⌜ (n ≡ 8 → ⊥) × (8 * groups ≤ width) × (4 * (groups * (8 / n)) ≤ length (now out)) ⌝ }
+    ensures { λ _. ⌜ now (out .exit) ≡ run pixelCells (given (packedOf width size (pixels (now (entries .entry))) (pixels (now (row .entry))))) 0 (groups * (8 / n)) (now (out .entry)) ⌝ }
+{
+    let mut last = last_of(row, width, 0, 0, n, range, entries, size, hints);
+    while last.groups < groups {
+        last = pack_run(
+            row,
+            width,
+            out,
+            groups,
+            n,
+            range,
+            last,
             entries,
             size,
             hints,
         );
-        y += 1;
     }
 }
 
-// Stores a picture through the color table, or refuses it.
-pub fn store_color_indexing_transform(
-    picture: &[u8],
-    strip: &mut [u8],
-    width: usize,
-    height: usize,
-    size: usize,
-    entries: &[u8],
-) -> Packing
-    requires { ⌜ Sized width height ⌝ }
-    requires { ⌜ (1 ≤ size) × (size ≤ 256) × (4 * size ≤ length (now entries)) × Holds width height (now picture) × (4 * (height * packedWidth size width) ≤ length (now strip)) ⌝ }
-    ensures { λ r. ⌜ (answer r ≡ storedAnswer size (pixels (now (entries .entry))) (height * width) (pixels (now (picture .entry)))) × (now (strip .exit) ≡ storedStrip width height size (pixels (now (entries .entry))) (pixels (now (picture .entry))) (now (strip .entry))) ⌝ }
+fn bit(zero: bool, weight: u32) -> u32
+    ensures { λ r. ⌜ r ≡ (if zero then 0 else weight) ⌝ }
 {
-    let mut hints = no_hints();
-    if accept(picture, height * width, entries, size, &mut hints) {
-        pack_rows(picture, strip, width, height, entries, size, &mut hints);
-        Packing::Stored
+    if zero { 0 } else { weight }
+}
+
+// Whether each of the eight pixels from i on is not the table's first entry, as a byte.
+fn bits_of(row: &[u8], i: usize, first: u32) -> u32
+    requires { ⌜ 4 * (i + 8) ≤ length (now row) ⌝ }
+    ensures { λ r. ⌜ (r ≡ digits 2 8 (differs (unword first) (pixels (now (row .entry))) i)) × (r < 256) ⌝ }
+{
+    let mut b = 0;
+    let mut weight = 1;
+    let mut k = 0;
+    while k < 8 {
+        b = b + bit(same(first, word_at(row, i + k)), weight);
+        weight = weight * 2;
+        k += 1;
+    }
+    b
+}
+
+// The same where the table has two entries: a pixel that is not the first one is the second one, so that none is looked up.
+fn pack_bits(row: &[u8], width: usize, out: &mut [u8], groups: usize, entries: &[u8], size: usize)
+    requires { ⌜ (1 ≤ size) × (size ≤ 256) × (4 * size ≤ length (now entries)) × (8 * groups ≤ width) × (4 * groups ≤ length (now out)) ⌝ }
+    requires { ⌜ Row size width 8 2 (now entries) (now row) ⌝ }
+    ensures { λ _. ⌜ now (out .exit) ≡ run pixelCells (given (packedOf width size (pixels (now (entries .entry))) (pixels (now (row .entry))))) 0 groups (now (out .entry)) ⌝ }
+{
+    let first = word_at(entries, 0);
+    let mut g = 0;
+    while g < groups {
+        put_word(out, g, record_of(bits_of(row, g * 8, first)));
+        g += 1;
+    }
+}
+
+fn pack_groups(
+    row: &[u8],
+    width: usize,
+    out: &mut [u8],
+    groups: usize,
+    n: usize,
+    range: usize,
+    entries: &[u8],
+    size: usize,
+    hints: &[u8],
+)
+    requires { ⌜ Table size (now entries) (now hints) ⌝ }
+    requires { ⌜ Row size width n range (now entries) (now row) ⌝ }
+    requires { ⌜ (8 * groups ≤ width) × (4 * (groups * (8 / n)) ≤ length (now out)) ⌝ }
+    ensures { λ _. ⌜ now (out .exit) ≡ run pixelCells (given (packedOf width size (pixels (now (entries .entry))) (pixels (now (row .entry))))) 0 (groups * (8 / n)) (now (out .entry)) ⌝ }
+{
+    if n == 8 {
+        pack_bits(row, width, out, groups, entries, size);
     } else {
-        Packing::NoEntry
+        pack_eights(row, width, out, groups, n, range, entries, size, hints);
+    }
+}
+
+// A row: its groups of eight pixels, and the records that are left.
+fn pack_by(
+    row: &[u8],
+    width: usize,
+    out: &mut [u8],
+    n: usize,
+    range: usize,
+    entries: &[u8],
+    size: usize,
+    hints: &[u8],
+)
+    requires { ⌜ Table size (now entries) (now hints) ⌝ }
+    requires { ⌜ Row size width n range (now entries) (now row) ⌝ }
+    requires { ⌜ 4 * packedWidth size width ≤ length (now out) ⌝ }
+    ensures { λ _. ⌜ now (out .exit) ≡ written (packedWidth size width) (packedOf width size (pixels (now (entries .entry))) (pixels (now (row .entry)))) (now (out .entry)) ⌝ }
+{
+    let groups = width / 8;
+    let from = groups * (8 / n);
+    let to = (width + n - 1) / n;
+    pack_groups(row, width, out, groups, n, range, entries, size, hints);
+    pack_records(row, width, out, from, to, n, range, entries, size, hints);
+}
+
+// A row of accepted pixels, packed at the front of `out`. In each arm n and range are constants, which the compiler follows into the loops.
+pub fn pack_row(
+    row: &[u8],
+    expanded: Expanded,
+    out: &mut [u8],
+    entries: &[u8],
+    size: usize,
+    hints: &[u8],
+)
+    requires { ⌜ (1 ≤ size) × (size ≤ 256) × (4 * size ≤ length (now entries)) × (1 ≤ expanded .0) × (expanded .0 ≤ 16384) × (4 * expanded .0 ≤ length (now row)) × (4 * packedWidth size (expanded .0) ≤ length (now out)) ⌝ }
+    requires { ⌜ Hints size (pixels (now entries)) (now hints) ⌝ }
+    requires { ⌜ accepted size (pixels (now entries)) (expanded .0) (pixels (now row)) ≡ true ⌝ }
+    ensures { λ _. ⌜ now (out .exit) ≡ written (packedWidth size (expanded .0)) (packedOf (expanded .0) size (pixels (now (entries .entry))) (pixels (now (row .entry)))) (now (out .entry)) ⌝ }
+{
+    let width = expanded.0;
+    if size <= 2 {
+        pack_by(row, width, out, 8, 2, entries, size, hints);
+    } else if size <= 4 {
+        pack_by(row, width, out, 4, 4, entries, size, hints);
+    } else if size <= 16 {
+        pack_by(row, width, out, 2, 16, entries, size, hints);
+    } else {
+        pack_by(row, width, out, 1, 256, entries, size, hints);
     }
 }

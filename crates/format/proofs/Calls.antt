@@ -77,7 +77,7 @@ module _ (w h : ℕ) (cs ds : List ℕ) where
         let a = before-zero refusal (8 unless room) e in
         (a .0, leb-true (4 * (h * w)) (length image) (unless-zero 7 room (a .1)))
 
-    pub rebuildImage-accepted : rebuildAnswer w h cs ds image ≡ 0 → rebuildImage w h cs ds image ≡ written (h * w) (rebuilt cs w h ds (count cs) (pixels image)) image
+    pub rebuildImage-accepted : rebuildAnswer w h cs ds image ≡ 0 → rebuildImage w h cs ds image ≡ written (h * w) (rebuilt (stepAt cs w) h ds (count cs) (pixels image)) image
     unfolding rebuildImage
     rebuildImage-accepted e = rw e
 
@@ -92,7 +92,7 @@ module _ (w h : ℕ) (cs ds : List ℕ) where
     rooms = holds picture (h * w) && holds strip (records w h cs)
 
     abbrev accepting : Bool
-    accepting = accepts cs w h ds (count cs) (pixels picture)
+    accepting = accepts (stepAt cs w) h ds (count cs) (pixels picture)
 
     pub storeAnswer-listed : (storeAnswer w h cs ds picture strip ≤ 8) ⊎ (storeAnswer w h cs ds picture strip ≡ 21)
     unfolding storeAnswer
@@ -118,7 +118,7 @@ module _ (w h : ℕ) (cs ds : List ℕ) where
         let r = unless-zero 7 rooms (b .0) in
         (a .0, leb-true (4 * (h * w)) (length picture) (and-left (holds picture (h * w)) _ r), leb-true (4 * records w h cs) (length strip) (and-right (holds picture (h * w)) _ r), unless-zero 20 accepting (b .1))
 
-    pub storeStrip-accepted : storeAnswer w h cs ds picture strip ≡ 0 → storeStrip w h cs ds picture strip ≡ written (records w h cs) (stored cs w ds (count cs) (pixels picture)) strip
+    pub storeStrip-accepted : storeAnswer w h cs ds picture strip ≡ 0 → storeStrip w h cs ds picture strip ≡ written (records w h cs) (stored (stepAt cs w) ds (count cs) (pixels picture)) strip
     unfolding storeStrip
     storeStrip-accepted e = rw e
 

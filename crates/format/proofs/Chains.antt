@@ -78,27 +78,27 @@ module _ (w h : ℕ) (cs ds : List ℕ) (valid : chainRefusal w h cs (length ds)
   abbrev wide : 1 ≤ w
   wide = valid-sized w h cs (length ds) valid .wide
 
-  pub stored-bytes : (k : ℕ) → k ≤ count cs → accepts cs w h ds k f ≡ true → BytesIn (h * widthAt cs w k) (stored cs w ds k f)
+  pub stored-bytes : (k : ℕ) → k ≤ count cs → accepts (stepAt cs w) h ds k f ≡ true → BytesIn (h * widthAt cs w k) (stored (stepAt cs w) ds k f)
   unfolding stored accepts widthAt recordAt
   stored-bytes zero l a = bytes
   stored-bytes (suc k) l a =
-      forward-bytes (stepAt cs w k) h (length ds) ds (widthAt-pos cs w k wide) (valid-step w h cs (length ds) valid k l) (stored cs w ds k f)
-      (stored-bytes k (omega arith) (and-left (accepts cs w h ds k f) _ a)) (and-right (accepts cs w h ds k f) _ a)
+      forward-bytes (stepAt cs w k) h (length ds) ds (widthAt-pos cs w k wide) (valid-step w h cs (length ds) valid k l) (stored (stepAt cs w) ds k f)
+      (stored-bytes k (omega arith) (and-left (accepts (stepAt cs w) h ds k f) _ a)) (and-right (accepts (stepAt cs w) h ds k f) _ a)
 
-  rebuilt-stored : (k : ℕ) → k ≤ count cs → accepts cs w h ds k f ≡ true → Alike (h * w) (rebuilt cs w h ds k (stored cs w ds k f)) f
+  rebuilt-stored : (k : ℕ) → k ≤ count cs → accepts (stepAt cs w) h ds k f ≡ true → Alike (h * w) (rebuilt (stepAt cs w) h ds k (stored (stepAt cs w) ds k f)) f
   unfolding stored rebuilt accepts recordAt
   rebuilt-stored zero l a q m = refl
   rebuilt-stored (suc k) l a q m =
       let s = stepAt cs w k in
-      let before = and-left (accepts cs w h ds k f) _ a in
+      let before = and-left (accepts (stepAt cs w) h ds k f) _ a in
       let undone =
-      backward-forward s h (length ds) ds (widthAt-pos cs w k wide) (valid-step w h cs (length ds) valid k l) (stored cs w ds k f)
-      (stored-bytes k (omega arith) before) (and-right (accepts cs w h ds k f) _ a) in
-      rebuilt-same cs w h ds wide k (λ j i. valid-known w h cs (length ds) valid j (omega arith)) (backward s h ds (forward s ds (stored cs w ds k f))) (stored cs w ds k f) undone q m
+      backward-forward s h (length ds) ds (widthAt-pos cs w k wide) (valid-step w h cs (length ds) valid k l) (stored (stepAt cs w) ds k f)
+      (stored-bytes k (omega arith) before) (and-right (accepts (stepAt cs w) h ds k f) _ a) in
+      rebuilt-same cs w h ds wide k (λ j i. valid-known w h cs (length ds) valid j (omega arith)) (backward s h ds (forward s ds (stored (stepAt cs w) ds k f))) (stored (stepAt cs w) ds k f) undone q m
       ∙ rebuilt-stored k (omega arith) before q m
 
   -- rebuilding what was stored gives the picture
-  pub chain-stored : accepts cs w h ds (count cs) f ≡ true → Alike (h * w) (rebuilt cs w h ds (count cs) (stored cs w ds (count cs) f)) f
+  pub chain-stored : accepts (stepAt cs w) h ds (count cs) f ≡ true → Alike (h * w) (rebuilt (stepAt cs w) h ds (count cs) (stored (stepAt cs w) ds (count cs) f)) f
   chain-stored = rebuilt-stored (count cs) (le-refl (count cs))
 
 -- chains without a color table
@@ -113,15 +113,15 @@ widthAt-untabled cs w zero u = refl
 widthAt-untabled cs w (suc k) u = narrowed-other (stepAt cs w k) (u k (omega arith)) ∙ widthAt-untabled cs w k (λ j l. u j (omega arith))
 
 -- every picture is accepted
-pub accepts-untabled : (cs : List ℕ) (w h : ℕ) (ds : List ℕ) (k : ℕ) → Untabled cs w k → (f : Picture) → accepts cs w h ds k f ≡ true
+pub accepts-untabled : (cs : List ℕ) (w h : ℕ) (ds : List ℕ) (k : ℕ) → Untabled cs w k → (f : Picture) → accepts (stepAt cs w) h ds k f ≡ true
 unfolding accepts
 accepts-untabled cs w h ds zero u f = refl
 accepts-untabled cs w h ds (suc k) u f =
-    and-both (accepts cs w h ds k f) _ (accepts-untabled cs w h ds k (λ j l. u j (omega arith)) f)
-    (takes-other (stepAt cs w k) h ds (stored cs w ds k f) (u k (omega arith)))
+    and-both (accepts (stepAt cs w) h ds k f) _ (accepts-untabled cs w h ds k (λ j l. u j (omega arith)) f)
+    (takes-other (stepAt cs w k) h ds (stored (stepAt cs w) ds k f) (u k (omega arith)))
 
 module _ (w h : ℕ) (cs ds : List ℕ) (valid : chainRefusal w h cs (length ds) ≡ 0) (untabled : Untabled cs w (count cs)) where
-  stored-rebuilt : (k : ℕ) → k ≤ count cs → (g : Picture) → BytesIn (h * widthAt cs w k) g → Alike (h * widthAt cs w k) (stored cs w ds k (rebuilt cs w h ds k g)) g
+  stored-rebuilt : (k : ℕ) → k ≤ count cs → (g : Picture) → BytesIn (h * widthAt cs w k) g → Alike (h * widthAt cs w k) (stored (stepAt cs w) ds k (rebuilt (stepAt cs w) h ds k g)) g
   unfolding stored rebuilt widthAt recordAt
   stored-rebuilt zero l g bytes q m = refl
   stored-rebuilt (suc k) l g bytes q m =
@@ -129,13 +129,13 @@ module _ (w h : ℕ) (cs ds : List ℕ) (valid : chainRefusal w h cs (length ds)
       let pos = widthAt-pos cs w k (valid-sized w h cs (length ds) valid .wide) in
       let known = valid-known w h cs (length ds) valid k l in
       let g′ = backward s h ds g in
-      forward-same s h ds pos known (stored cs w ds k (rebuilt cs w h ds k g′)) g′
+      forward-same s h ds pos known (stored (stepAt cs w) ds k (rebuilt (stepAt cs w) h ds k g′)) g′
       (stored-rebuilt k (omega arith) g′ (backward-bytes s h ds pos known (untabled k l) g bytes)) q m
       ∙ forward-backward s h ds pos known (untabled k l) g bytes q m
 
   -- storing what was rebuilt gives the strip
-  pub chain-rebuilt : (g : Picture) → BytesIn (h * w) g → Alike (h * w) (stored cs w ds (count cs) (rebuilt cs w h ds (count cs) g)) g
+  pub chain-rebuilt : (g : Picture) → BytesIn (h * w) g → Alike (h * w) (stored (stepAt cs w) ds (count cs) (rebuilt (stepAt cs w) h ds (count cs) g)) g
   chain-rebuilt g bytes =
       let e = widthAt-untabled cs w (count cs) untabled in
-      subst (λ (x : ℕ). BytesIn (h * x) g → Alike (h * x) (stored cs w ds (count cs) (rebuilt cs w h ds (count cs) g)) g) e
+      subst (λ (x : ℕ). BytesIn (h * x) g → Alike (h * x) (stored (stepAt cs w) ds (count cs) (rebuilt (stepAt cs w) h ds (count cs) g)) g) e
       (stored-rebuilt (count cs) (le-refl (count cs)) g) bytes

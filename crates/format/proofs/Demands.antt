@@ -5,7 +5,7 @@ use mathlib.Core.Path.{_≡_, ap, _∙_}
 use Prim.Native.Nat.{ℕ, _*_, _<_, _≤_}
 use lib.ListN.{length}
 use Rattle.format.specs.Picture.{Picture, byteAt, pixels, written}
-use Rattle.format.specs.Chain.{recordAt, count}
+use Rattle.format.specs.Chain.{recordAt, stepAt, count}
 use Rattle.format.specs.Refusals.{chainRefusal}
 use Rattle.format.specs.Stages.{stored, rebuilt}
 use Rattle.format.specs.Calls.{records, rebuildAnswer, rebuildImage, storeAnswer, storeStrip}
@@ -77,7 +77,7 @@ module _ (w h : ℕ) (cs ds : List ℕ) where
 
   pub rebuilds-stored : RebuildsStored w h cs ds
   rebuilds-stored picture strip image bytes e room front =
-      (accepted, rebuildImage-accepted w h cs ds image accepted ∙ written-same (h * w) (rebuilt cs w h ds (count cs) (pixels image)) f image same)
+      (accepted, rebuildImage-accepted w h cs ds image accepted ∙ written-same (h * w) (rebuilt (stepAt cs w) h ds (count cs) (pixels image)) f image same)
     where
       valid : chainRefusal w h cs (length ds) ≡ 0
       valid = store-accepted w h cs ds picture strip e .0
@@ -89,9 +89,9 @@ module _ (w h : ℕ) (cs ds : List ℕ) where
       f = pixels picture
 
       s : Picture
-      s = stored cs w ds (count cs) f
+      s = stored (stepAt cs w) ds (count cs) f
 
-      same : Alike (h * w) (rebuilt cs w h ds (count cs) (pixels image)) f
+      same : Alike (h * w) (rebuilt (stepAt cs w) h ds (count cs) (pixels image)) f
       same q l =
           rebuilt-same cs w h ds (valid-sized w h cs (length ds) valid .wide) (count cs) (valid-known w h cs (length ds) valid) (pixels image) s
           (front-written (records w h cs) s image (storeStrip w h cs ds picture strip) strip front (storeStrip-accepted w h cs ds picture strip e)) q l
@@ -114,10 +114,10 @@ module _ (w h : ℕ) (cs ds : List ℕ) where
       accepted = store-accepts w h cs ds picture strip valid roomP (rw whole roomS) (accepts-untabled cs w h ds (count cs) untabled (pixels picture))
 
       f : Picture
-      f = rebuilt cs w h ds (count cs) (pixels image)
+      f = rebuilt (stepAt cs w) h ds (count cs) (pixels image)
 
       s : Picture
-      s = stored cs w ds (count cs) (pixels picture)
+      s = stored (stepAt cs w) ds (count cs) (pixels picture)
 
       same : Alike (h * w) s (pixels image)
       same q l =

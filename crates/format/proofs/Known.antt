@@ -1,63 +1,74 @@
--- The worked pictures of document 01 that are marked with a star, in one table: what the definitions compute, and what the paper says.
-use mathlib.Core.List.{List, [], _∷_, map}
+-- The worked pictures of document 01 that are marked with a star, in one table: what the definitions compute, and what the paper says. Pictures are rebuilt and stored by
+-- the calls' definitions, with the bytes of a chain.
+use mathlib.Core.List.{List, [], _∷_, _++_, map}
 use mathlib.Core.Path.{_≡_, refl}
 use Prim.Native.Nat.{ℕ}
-use lib.ListN.{getD}
 use Rattle.format.specs.declared.Pixel.{Pixel}
 use Rattle.format.specs.Byte.{delta}
 use Rattle.format.specs.Pixel.{pixel, clear, each, each3}
-use Rattle.format.specs.Picture.{Picture, written, inOrder, block, writtenBytes}
-use Rattle.format.specs.Predictor.{predict, select, predicted, gained, fromResiduals}
-use Rattle.format.specs.Color.{inverseColor}
-use Rattle.format.specs.SubtractGreen.{addGreen}
-use Rattle.format.specs.ColorTable.{perPixel, unpacked, lowest, storedAnswer}
+use Rattle.format.specs.Picture.{Picture, pixels, written, inOrder, block, writtenBytes}
+use Rattle.format.specs.Predictor.{predict, select, predicted, residuals, gained}
+use Rattle.format.specs.Color.{inverseColor, colorRebuilt}
+use Rattle.format.specs.SubtractGreen.{greenRebuilt}
+use Rattle.format.specs.ColorTable.{perPixel, unpacked, lowest, digits, packed}
 use Rattle.format.specs.ColorMap.{adjusted, adjustColorMap}
+use Rattle.format.specs.Chain.{recordAt, byKind, narrowed, widthAt}
+use Rattle.format.specs.Refusals.{tabled, tabledLength, checked, recordsRefusal, chainRefusal}
+use Rattle.format.specs.Stages.{forward, backward, stored, rebuilt, takes, accepts}
+use Rattle.format.specs.Calls.{rebuildAnswer, rebuildImage, storeAnswer, storeStrip}
 
 pub record Line : Type 0 where
   pub computed : List ℕ
   pub expected : List ℕ
 
+infixl 2 _is_
 abbrev _is_ : List ℕ → List ℕ → Line
 xs is ys = record { computed = xs; expected = ys }
 
-infixl 2 _is_
--- the bytes of a picture's first n pixels, and of one pixel
-abbrev bytes : ℕ → Picture → List ℕ
-bytes n f = written n f []
-
+-- the bytes of one pixel
 abbrev one : Pixel → List ℕ
-one v = bytes 1 (λ i. v)
+one v = written 1 (λ i. v) []
 
--- a picture by its pixels
-abbrev picture : List Pixel → Picture
-picture l i = getD l i (pixel 9 9 9 9)
+-- a record of a chain: kind, bits, size and length, each in one byte; its part starts at the data's front
+abbrev chainOf : ℕ → ℕ → ℕ → ℕ → List ℕ
+chainOf kind bits size bytes = kind ∷ bits ∷ size ∷ 0 ∷ 0 ∷ 0 ∷ 0 ∷ 0 ∷ bytes ∷ 0 ∷ 0 ∷ 0 ∷ 0 ∷ 0 ∷ 0 ∷ 0 ∷ []
 
--- block data of one mode
-abbrev blocksOf : ℕ → Picture
-blocksOf m i = pixel 0 m 0 255
+-- a predictor with one block, and its data
+abbrev predictor : List ℕ
+predictor = chainOf 0 2 0 4
+
+abbrev mode : ℕ → List ℕ
+mode m = 0 ∷ m ∷ 0 ∷ 255 ∷ []
+
+-- red residuals 5, 1, 2, 0
+abbrev reds : List ℕ
+reds = 5 ∷ 0 ∷ 0 ∷ 0 ∷ 1 ∷ 0 ∷ 0 ∷ 0 ∷ 2 ∷ 0 ∷ 0 ∷ 0 ∷ 0 ∷ 0 ∷ 0 ∷ 0 ∷ []
 
 -- a table of three entries, none of them clear
-abbrev three : Picture
-three = picture (pixel 1 0 0 255 ∷ pixel 2 0 0 255 ∷ pixel 3 0 0 255 ∷ [])
+abbrev three : List ℕ
+three = 1 ∷ 0 ∷ 0 ∷ 255 ∷ 2 ∷ 0 ∷ 0 ∷ 255 ∷ 3 ∷ 0 ∷ 0 ∷ 255 ∷ []
 
--- 2 by 2, red residuals 5, 1, 2, 0
-abbrev reds : Picture
-reds = picture (pixel 5 0 0 0 ∷ pixel 1 0 0 0 ∷ pixel 2 0 0 0 ∷ pixel 0 0 0 0 ∷ [])
+-- entries 0, 1, 2, clear, 2
+abbrev spread : List ℕ
+spread = three ++ (0 ∷ 0 ∷ 0 ∷ 0 ∷ 3 ∷ 0 ∷ 0 ∷ 255 ∷ [])
 
--- size 3, 5 by 1, packed bytes 228 and 254
-abbrev spread : Picture
-spread = unpacked 5 3 three (picture (pixel 0 228 0 255 ∷ pixel 0 254 0 255 ∷ []))
+-- a strip of two records with the bytes 228 and 254, in a buffer of five pixels
+abbrev strip : List ℕ
+strip = 0 ∷ 228 ∷ 0 ∷ 255 ∷ 0 ∷ 254 ∷ 0 ∷ 255 ∷ 9 ∷ 9 ∷ 9 ∷ 9 ∷ 9 ∷ 9 ∷ 9 ∷ 9 ∷ 9 ∷ 9 ∷ 9 ∷ 9 ∷ []
 
 abbrev pub worked : List Line
 worked =
     -- 1 by 1, kind 0
-    (bytes 1 (fromResiduals 1 2 (blocksOf 7) 1 (picture (pixel 1 2 3 4 ∷ []))) is 1 ∷ 2 ∷ 3 ∷ 3 ∷ [])
+    (rebuildImage 1 1 predictor (mode 7) (1 ∷ 2 ∷ 3 ∷ 4 ∷ []) is 1 ∷ 2 ∷ 3 ∷ 3 ∷ [])
     -- 2 by 1
-    ∷ (bytes 2 (fromResiduals 2 2 (blocksOf 7) 2 (picture (pixel 1 2 3 0 ∷ pixel 10 20 30 0 ∷ []))) is 1 ∷ 2 ∷ 3 ∷ 255 ∷ 11 ∷ 22 ∷ 33 ∷ 255 ∷ [])
+    ∷ (rebuildImage 2 1 predictor (mode 7) (1 ∷ 2 ∷ 3 ∷ 0 ∷ 10 ∷ 20 ∷ 30 ∷ 0 ∷ []) is 1 ∷ 2 ∷ 3 ∷ 255 ∷ 11 ∷ 22 ∷ 33 ∷ 255 ∷ [])
     -- 2 by 2, mode 3: TR of the last column is column 0 of the same row
-    ∷ (bytes 4 (fromResiduals 2 2 (blocksOf 3) 4 reds) is 5 ∷ 0 ∷ 0 ∷ 255 ∷ 6 ∷ 0 ∷ 0 ∷ 255 ∷ 7 ∷ 0 ∷ 0 ∷ 255 ∷ 7 ∷ 0 ∷ 0 ∷ 255 ∷ [])
-    -- the same, mode 14: the last pixel
-    ∷ (one (fromResiduals 2 2 (blocksOf 14) 4 reds 3) is 0 ∷ 0 ∷ 0 ∷ 0 ∷ [])
+    ∷ (rebuildImage 2 2 predictor (mode 3) reds is 5 ∷ 0 ∷ 0 ∷ 255 ∷ 6 ∷ 0 ∷ 0 ∷ 255 ∷ 7 ∷ 0 ∷ 0 ∷ 255 ∷ 7 ∷ 0 ∷ 0 ∷ 255 ∷ [])
+    -- the same, mode 14: the last pixel is (0, 0, 0, 0)
+    ∷ (rebuildImage 2 2 predictor (mode 14) reds is 5 ∷ 0 ∷ 0 ∷ 255 ∷ 6 ∷ 0 ∷ 0 ∷ 255 ∷ 7 ∷ 0 ∷ 0 ∷ 255 ∷ 0 ∷ 0 ∷ 0 ∷ 0 ∷ [])
+    -- storing what was rebuilt gives the strip
+    ∷ (storeStrip 2 2 predictor (mode 3) (5 ∷ 0 ∷ 0 ∷ 255 ∷ 6 ∷ 0 ∷ 0 ∷ 255 ∷ 7 ∷ 0 ∷ 0 ∷ 255 ∷ 7 ∷ 0 ∷ 0 ∷ 255 ∷ []) strip
+    is reds ++ (9 ∷ 9 ∷ 9 ∷ 9 ∷ []))
     -- mode 11, select: a tie gives T
     ∷ (one (predict 11 (pixel 10 0 0 255) (pixel 0 10 0 255) clear (pixel 0 0 0 255)) is 0 ∷ 10 ∷ 0 ∷ 255 ∷ [])
     -- mode 12: 200, 200, 100 in red; 10, 20, 100 in green
@@ -68,16 +79,18 @@ worked =
     ∷ (one (predict 10 (pixel 1 0 0 0) (pixel 1 0 0 0) (pixel 2 0 0 0) (pixel 0 0 0 0)) is 0 ∷ 0 ∷ 0 ∷ 0 ∷ [])
     ∷ (delta 255 1 ∷ delta 127 127 ∷ delta 128 127 ∷ delta 128 128 ∷ [] is 255 ∷ 248 ∷ 4 ∷ 0 ∷ [])
     -- color data (32, 0, 32, 0)
-    ∷ (one (inverseColor (pixel 32 0 32 0) (pixel 10 32 5 9)) is 42 ∷ 32 ∷ 47 ∷ 9 ∷ [])
+    ∷ (rebuildImage 1 1 (chainOf 1 2 0 4) (32 ∷ 0 ∷ 32 ∷ 0 ∷ []) (10 ∷ 32 ∷ 5 ∷ 9 ∷ []) is 42 ∷ 32 ∷ 47 ∷ 9 ∷ [])
     -- kind 2
-    ∷ (one (addGreen (pixel 250 10 255 7)) is 4 ∷ 10 ∷ 9 ∷ 7 ∷ [])
-    -- entries 0, 1, 2, clear, 2; storing this back is refused, since no entry is clear
-    ∷ (bytes 5 spread is 1 ∷ 0 ∷ 0 ∷ 255 ∷ 2 ∷ 0 ∷ 0 ∷ 255 ∷ 3 ∷ 0 ∷ 0 ∷ 255 ∷ 0 ∷ 0 ∷ 0 ∷ 0 ∷ 3 ∷ 0 ∷ 0 ∷ 255 ∷ [])
-    ∷ (storedAnswer 3 three 5 spread ∷ [] is 21 ∷ [])
+    ∷ (rebuildImage 1 1 (chainOf 2 0 0 0) [] (250 ∷ 10 ∷ 255 ∷ 7 ∷ []) is 4 ∷ 10 ∷ 9 ∷ 7 ∷ [])
+    -- size 3, 5 by 1
+    ∷ (rebuildImage 5 1 (chainOf 3 0 3 12) three strip is spread)
+    -- storing this back is refused, since no entry is clear, and the strip stays
+    ∷ (storeAnswer 5 1 (chainOf 3 0 3 12) three spread strip ∷ [] is 21 ∷ [])
+    ∷ (storeStrip 5 1 (chainOf 3 0 3 12) three spread strip is strip)
     -- the color map
     ∷ (adjustColorMap (250 ∷ 0 ∷ 0 ∷ 255 ∷ 10 ∷ 1 ∷ 0 ∷ 0 ∷ []) is 250 ∷ 0 ∷ 0 ∷ 255 ∷ 4 ∷ 1 ∷ 0 ∷ 255 ∷ [])
     ∷ []
 
 pub known : map (λ (l : Line). l .computed) worked ≡ map (λ (l : Line). l .expected) worked
-unfolding each each3 written inOrder gained predicted block predict select delta inverseColor unpacked perPixel lowest storedAnswer adjustColorMap adjusted writtenBytes
+unfolding each each3 pixels written inOrder residuals gained predicted block predict select delta inverseColor colorRebuilt greenRebuilt unpacked perPixel lowest digits packed adjustColorMap adjusted writtenBytes recordAt byKind narrowed widthAt tabled tabledLength checked recordsRefusal chainRefusal forward backward stored rebuilt takes accepts rebuildAnswer rebuildImage storeAnswer storeStrip
 known = refl

@@ -1,12 +1,11 @@
 -- The color indexing transform (RFC 9649, "Color Indexing Transform"; document 01, module 4). `size` is how many entries the table has, `e` gives them.
 use mathlib.Core.Bool.{Bool}
-use mathlib.Core.List.{List}
 use Prim.Native.Nat.{ℕ, zero, suc, _+_, _*_, _/_, _%_, _^_}
 use lib.Dec.{leb, ltb}
 use Rattle.format.specs.Choice.{if_then_else_, every}
 use Rattle.format.specs.declared.Pixel.{Pixel}
 use Rattle.format.specs.Pixel.{pixel, clear, equal}
-use Rattle.format.specs.Picture.{Picture, ceiling, written}
+use Rattle.format.specs.Picture.{Picture, ceiling}
 
 -- how many indices a packed pixel holds
 unfoldable pub perPixel : ℕ → ℕ
@@ -71,13 +70,3 @@ packedAt w size e f j y =
 
 unfoldable pub packed : ℕ → ℕ → Picture → Picture → Picture
 packed w size e f r = packedAt w size e f (r % packedWidth size w) (r / packedWidth size w)
-
--- what storing a picture through the table answers and leaves
-
--- refusal 21: a pixel has no entry
-unfoldable pub storedAnswer : ℕ → Picture → ℕ → Picture → ℕ
-storedAnswer size e m f = if accepted size e m f then 0 else 21
-
--- the strip buffer xs, after a picture of h rows of w pixels is stored, or is refused, which changes no byte
-unfoldable pub storedStrip : ℕ → ℕ → ℕ → Picture → Picture → List ℕ → List ℕ
-storedStrip w h size e f xs = if accepted size e (h * w) f then written (h * packedWidth size w) (packed w size e f) xs else xs

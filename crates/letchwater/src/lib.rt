@@ -1,8 +1,42 @@
 // The calls for the Rust host: numbers and byte slices. Each contract gives the number and every byte of every lent buffer, on every input.
 use color_map::adjust_color_map;
 use color_map::unadjust_color_map;
+use rebuild::rebuild;
+use store::store::store;
 ghost use mathlib.Core.Path.{_≡_};
+ghost use Rattle.format.specs.Calls.{rebuildAnswer, rebuildImage, storeAnswer, storeStrip};
 ghost use Rattle.format.specs.ColorMap.{refused as refusedLength, colorMapAnswer, adjustColorMap, unadjustColorMap};
+
+// Rebuilds a picture in the buffer whose front holds its strip.
+#[no_mangle]
+pub extern "C" fn letchwater_rebuild(
+    width: u32,
+    height: u32,
+    chain: &[u8],
+    data: &[u8],
+    image: &mut [u8],
+) -> u32
+    ensures { λ r. ⌜ r ≡ rebuildAnswer width height (now (chain .entry)) (now («data» .entry)) (now (image .entry)) ⌝ }
+    ensures { λ r. ⌜ now (image .exit) ≡ rebuildImage width height (now (chain .entry)) (now («data» .entry)) (now (image .entry)) ⌝ }
+{
+    rebuild(width as usize, height as usize, chain, data, image)
+}
+
+// Stores a picture as a strip.
+#[no_mangle]
+pub extern "C" fn letchwater_store(
+    width: u32,
+    height: u32,
+    chain: &[u8],
+    data: &[u8],
+    picture: &[u8],
+    strip: &mut [u8],
+) -> u32
+    ensures { λ r. ⌜ r ≡ storeAnswer width height (now (chain .entry)) (now («data» .entry)) (now (picture .entry)) (now (strip .entry)) ⌝ }
+    ensures { λ r. ⌜ now (strip .exit) ≡ storeStrip width height (now (chain .entry)) (now («data» .entry)) (now (picture .entry)) (now (strip .entry)) ⌝ }
+{
+    store(width as usize, height as usize, chain, data, picture, strip)
+}
 
 // Refusal 10: the length of a color map is 0, over 1024 or not a multiple of 4.
 fn refused(length: usize) -> bool

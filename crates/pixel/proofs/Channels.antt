@@ -7,7 +7,7 @@ use native.Mathlib.Omega.{arith}
 use lib.ListN.{length}
 use Rattle.format.specs.declared.Pixel.{Pixel}
 use Rattle.format.specs.Picture.{byteAt, pixels}
-use Rattle.pixel.specs.Cells.{Cells, byteCells, pixelCells, putPixel, Rule, run}
+use Rattle.pixel.specs.Cells.{byteCells, pixelCells, putPixel, Rule, run}
 use Rattle.pixel.proofs.Cells.{byte-lawful, pixel-lawful, length-run, run-before, run-after, run-append}
 
 -- the byte rule g gives the channels of v to pixel q, also where earlier bytes of that pixel have been replaced

@@ -6,3 +6,4 @@ pub mod Channels
 pub mod Blocks
 pub mod Given
 pub mod Rows
+pub mod Held

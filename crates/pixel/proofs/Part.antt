@@ -2,13 +2,13 @@
 use mathlib.Core.List.{List, [], _∷_, _++_}
 use mathlib.Core.Path.{_≡_, sym, ap, _∙_}
 use Prim.Native.Nat.{ℕ, zero, suc, _+_, _-_, _*_, _<_, _≤_}
-use native.Mathlib.Nat.{zero-add, suc-add, add-assoc}
+use native.Mathlib.Nat.{add-zero, zero-add, suc-add, add-assoc}
 use native.Mathlib.Omega.{arith}
 use lib.ListN.{length, set, take, drop, length-set, length-drop, take-append-drop, List·getD-append}
 use lib.Seq.{getD-append-add, set-append-left, length-take-le, getD-take, getD-drop}
 use Rattle.format.specs.declared.Pixel.{Pixel}
 use Rattle.format.specs.Picture.{byteAt, pixels}
-use Rattle.pixel.specs.Cells.{Cells, pixelCells, putPixel, Rule, run}
+use Rattle.pixel.specs.Cells.{pixelCells, putPixel, Rule, run}
 use Rattle.pixel.proofs.Cells.{pixel-lawful, length-run}
 
 set-append-add : (xs ys : List ℕ) (n v : ℕ) → set (xs ++ ys) (length xs + n) v ≡ xs ++ set ys n v
@@ -36,9 +36,26 @@ module _ (a k : ℕ) (xs z : List ℕ) (fits : a + k ≤ length xs) (full : leng
       ap (λ (m : ℕ). set (back a k xs z) m v) n ∙ set-append-add (take a xs) (z ++ drop k (drop a xs)) j v
       ∙ ap (λ (r : List ℕ). take a xs ++ r) (set-append-left z (drop k (drop a xs)) j v w)
 
+-- bytes before the part
+byte-before : (a k : ℕ) (xs z : List ℕ) → a ≤ length xs → (i : ℕ) → i < a → byteAt (back a k xs z) i ≡ byteAt xs i
+byte-before a k xs z fits i h =
+    let l : length (take a xs) ≡ a = length-take-le a xs fits in
+    let w : i < length (take a xs) = omega arith in
+    List·getD-append (take a xs) (z ++ drop k (drop a xs)) 0 i w ∙ getD-take a xs i 0 h
+
+pub pixel-before : (a k : ℕ) (xs z : List ℕ) → 4 * a ≤ length xs → (j : ℕ) → j < a → pixels (back (4 * a) k xs z) j ≡ pixels xs j
+unfolding pixels
+pixel-before a k xs z fits j h =
+    cc (
+      byte-before (4 * a) k xs z fits (4 * j) (omega arith),
+      byte-before (4 * a) k xs z fits (4 * j + 1) (omega arith),
+      byte-before (4 * a) k xs z fits (4 * j + 2) (omega arith),
+      byte-before (4 * a) k xs z fits (4 * j + 3) (omega arith),
+    )
+
 -- the part starts at pixel a
 module _ (a k : ℕ) (xs : List ℕ) (fits : 4 * a + k ≤ length xs) where
-  pixel-back : (z : List ℕ) → length z ≡ k → (j : ℕ) → 4 * j + 4 ≤ k → pixels (back (4 * a) k xs z) (a + j) ≡ pixels z j
+  pub pixel-back : (z : List ℕ) → length z ≡ k → (j : ℕ) → 4 * j + 4 ≤ k → pixels (back (4 * a) k xs z) (a + j) ≡ pixels z j
   unfolding pixels
   pixel-back z full j h =
       cc (
@@ -78,6 +95,13 @@ module _ (a k : ℕ) (xs : List ℕ) (fits : 4 * a + k ≤ length xs) where
         getD-take k (drop (4 * a) xs) (4 * j + 3) 0 (omega arith) ∙ getD-drop (4 * a) xs (4 * j + 3) 0,
       )
 
+-- n pixels from pixel a on, as code lends them
+abbrev pub part : ℕ → ℕ → List ℕ → List ℕ
+part a n xs = take (4 * a + 4 * n - 4 * a) (drop (4 * a) xs)
+
+pub pixels-part : (a n : ℕ) (xs : List ℕ) → 4 * a + 4 * n ≤ length xs → (j : ℕ) → j < n → pixels (part a n xs) j ≡ pixels xs (a + j)
+pixels-part a n xs fits j l = pixel-part a (4 * a + 4 * n - 4 * a) xs (omega arith) j (omega arith)
+
 -- rule f in the whole is rule g in the part that starts at pixel a and has m pixels, for n of them from pixel b
 abbrev pub Seen : Rule Pixel → Rule Pixel → ℕ → ℕ → ℕ → ℕ → Type 0
 Seen f g a m b n =
@@ -97,3 +121,10 @@ module _ (f g : Rule Pixel) (a m b : ℕ) (xs : List ℕ) (fits : 4 * a + 4 * m 
       s (pixels (back (4 * a) (4 * m) xs z)) (pixels z) (b + n) (omega arith) (omega arith) (λ j l. pixel-back a (4 * m) xs fits z full j (omega arith)) in
       let j = add-assoc a b n in
       sym (put-back a (4 * m) xs fits z full (b + n) (g (pixels z) (b + n)) (omega arith)) ∙ cc
+
+-- the same of a part that code lends, all of it, and that comes back as ys
+pub part-back : (f g : Rule Pixel) (a n : ℕ) (xs ys : List ℕ) → ys ≡ run pixelCells g 0 n (part a n xs) → Seen f g a n 0 n → 4 * a + 4 * n ≤ length xs
+    → back (4 * a) (4 * a + 4 * n - 4 * a) xs ys ≡ run pixelCells f a n xs
+part-back f g a n xs ys e s fits =
+    let j : 4 * a + 4 * n - 4 * a ≡ 4 * n = omega arith in
+    rw (e, j) (rw add-zero at (part-run f g a n 0 xs fits n (omega arith) s))

@@ -1,6 +1,6 @@
 -- A picture's rows: the rule of a row in its part, and of row 0, is the rule of the picture.
 use mathlib.Core.List.{List}
-use mathlib.Core.Path.{_≡_, refl, sym, ap, _∙_}
+use mathlib.Core.Path.{_≡_, sym, ap, _∙_}
 use Prim.Native.Nat.{ℕ, _+_, _-_, _*_, _/_, _%_, _^_, _≤_, _<_}
 use native.Mathlib.Nat.{div-eq-of-lt, mod-eq-of-lt}
 use native.Mathlib.Decide.{ℕ-discrete}
@@ -16,10 +16,10 @@ use Rattle.format.specs.Predictor.{gained, predict, predicted, mode, left, top,
 use Rattle.format.proofs.Predictor.{row-above}
 use Rattle.pixel.specs.Cells.{pixelCells, run}
 use Rattle.format.specs.Sizes.{Blocked, Holds}
-use Rattle.pixel.proofs.Blocks.{row-there, block-there, data-there}
+use Rattle.pixel.proofs.Blocks.{row-there, block-there, data-part}
 use Rattle.pixel.proofs.Cells.{pixel-lawful, run-same}
 use Rattle.pixel.proofs.Rows.{run-then}
-use Rattle.pixel.proofs.Part.{back, part-run, pixel-part}
+use Rattle.pixel.proofs.Part.{back, part, part-run}
 use Rattle.predictor.specs.Row.{around, gains, rowPredicted}
 use Rattle.predictor.proofs.Blocks.{row-first}
 
@@ -104,29 +104,17 @@ module _ (w bits y : ℕ) (D d : Picture) (off : 1 ≤ y) (blocks : (j : ℕ) �
 pub pair-there : (w h y : ℕ) → 1 ≤ y → y < h → (y - 1) * w + 2 * w ≤ h * w
 pair-there w h y off below = omega (arith, row-there w h y below, row-above w y (λ z. omega arith))
 
-module _ (w h bits y : ℕ) (bs xs : List ℕ) (room : Holds w h xs) (blocked : Blocked w h bits bs) (off : 1 ≤ y) (below : y < h) where
-  -- the data pixels of the row's blocks, in their part
-  pub block-part : (m : ℕ) → m ≡ 4 * ceiling w (2 ^ bits) → (j : ℕ) → j < ceiling w (2 ^ bits)
-      → pixels (take m (drop (4 * (y / 2 ^ bits * ceiling w (2 ^ bits))) bs)) j ≡ pixels bs (y / 2 ^ bits * ceiling w (2 ^ bits) + j)
-  block-part m e j l = pixel-part (y / 2 ^ bits * ceiling w (2 ^ bits)) m bs (omega (arith, data-there w h bits y bs blocked below (ceiling w (2 ^ bits)) refl)) j (omega arith)
-
-  pub row-back : (bx k m : ℕ) → bx ≡ ceiling w (2 ^ bits) → k ≡ 8 * w → m ≡ 4 * bx
-      → back (4 * ((y - 1) * w)) k xs
-      (run pixelCells (gains (rowPredicted w bits (pixels (take m (drop (4 * (y / 2 ^ bits * bx)) bs))))) w w (take k (drop (4 * ((y - 1) * w)) xs)))
-      ≡ run pixelCells (gained w bits (pixels bs)) (y * w) w xs
-  unfolding gained
-  row-back bx k m e f g =
-      let up = row-above w y (λ z. omega arith) in
-      let k2 : k ≡ 4 * (w + w) = omega arith in
-      let d = pixels (take m (drop (4 * (y / 2 ^ bits * ceiling w (2 ^ bits))) bs)) in
-      rw (e, k2, ← up)
-      (part-run (gained w bits (pixels bs)) (gains (rowPredicted w bits d)) ((y - 1) * w) (w + w) w xs (omega (arith, pair-there w h y off below)) w (omega arith)
-      (λ p q i l u agree. seen d p q i l u agree (block-part m (g ∙ ap (λ (z : ℕ). 4 * z) e))))
-    where
-      seen : (d : Picture) (p q : ℕ → Pixel) (i : ℕ) → w ≤ i → i < w + w → ((j : ℕ) → j < w + w → p ((y - 1) * w + j) ≡ q j)
-          → ((j : ℕ) → j < ceiling w (2 ^ bits) → d j ≡ pixels bs (y / 2 ^ bits * ceiling w (2 ^ bits) + j))
-          → gained w bits (pixels bs) p ((y - 1) * w + i) ≡ gains (rowPredicted w bits d) q i
-      seen d p q i l u agree blocks = cc (agree i u, row-predicted w bits y (pixels bs) d off blocks p q agree i l u)
+pub row-back : (w h bits y : ℕ) (bs xs : List ℕ) → Holds w h xs → Blocked w h bits bs → 1 ≤ y → y < h → (bx k : ℕ) → bx ≡ ceiling w (2 ^ bits) → k ≡ 8 * w
+    → back (4 * ((y - 1) * w)) k xs (run pixelCells (gains (rowPredicted w bits (pixels (part (y / 2 ^ bits * bx) bx bs)))) w w (take k (drop (4 * ((y - 1) * w)) xs)))
+    ≡ run pixelCells (gained w bits (pixels bs)) (y * w) w xs
+unfolding gained
+row-back w h bits y bs xs room blocked off below bx k e f =
+    let up = row-above w y (λ z. omega arith) in
+    let k2 : k ≡ 4 * (w + w) = omega arith in
+    let d = pixels (part (y / 2 ^ bits * bx) bx bs) in
+    rw (k2, ← up)
+    (part-run (gained w bits (pixels bs)) (gains (rowPredicted w bits d)) ((y - 1) * w) (w + w) w xs (omega (arith, pair-there w h y off below)) w (omega arith)
+    (λ p q i l u agree. cc (agree i u, row-predicted w bits y (pixels bs) d off (data-part w h bits y bs blocked below bx e) p q agree i l u)))
 
 -- row 0
 

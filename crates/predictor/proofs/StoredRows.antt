@@ -1,10 +1,11 @@
--- Rows stored: a row's residuals in its part of the strip are the picture's.
+-- Rows stored: a row's residuals in its buffer are the picture's.
 use mathlib.Core.List.{List}
-use mathlib.Core.Path.{_≡_, refl, sym, ap, _∙_}
+use mathlib.Core.Path.{_≡_, sym, ap, _∙_}
 use Prim.Native.Nat.{ℕ, _+_, _-_, _*_, _/_, _^_, _≤_, _<_}
-use native.Mathlib.Nat.{add-zero}
+use native.Mathlib.Nat.{zero-mul, zero-add}
+use native.Mathlib.Decide.{decLt}
 use native.Mathlib.Omega.{arith}
-use lib.ListN.{take, drop}
+use lib.ListN.{length}
 use Rattle.format.specs.declared.Pixel.{Pixel}
 use Rattle.format.specs.Byte.{sub}
 use Rattle.format.specs.Pixel.{each, black}
@@ -12,64 +13,62 @@ use Rattle.format.specs.Picture.{Picture, pixels, ceiling}
 use Rattle.format.specs.Predictor.{predict, residuals}
 use Rattle.format.proofs.Predictor.{row-above}
 use Rattle.pixel.specs.Cells.{pixelCells, putPixel, run, given}
-use Rattle.format.specs.Sizes.{Blocked, Holds}
-use Rattle.pixel.proofs.Blocks.{row-there}
+use Rattle.pixel.specs.Held.{HoldsRow}
 use Rattle.pixel.proofs.Given.{given-same}
+use Rattle.pixel.proofs.Held.{held-run}
 use Rattle.pixel.proofs.Rows.{run-then}
-use Rattle.pixel.proofs.Part.{back, part-run, pixel-part}
 use Rattle.predictor.specs.Row.{residual, rowPredicted, leftResidual}
-use Rattle.predictor.proofs.Rows.{pair-there, block-part, predicted-first, predicted-left, row-predicted}
+use Rattle.predictor.proofs.Rows.{predicted-first, predicted-left, row-predicted}
 
 -- row 0
 
-module _ (w bits : ℕ) (D p : Picture) (h : 1 ≤ w) where
-  first-black : residuals w bits D p 0 ≡ each sub (p 0) black
-  unfolding residuals predict
-  first-black = ap (each sub (p 0)) (predicted-first w bits D p h)
+module _ (w bits : ℕ) (D f : Picture) (row : List ℕ) (wide : 1 ≤ w) (holds : HoldsRow f 0 w row) where
+  at : (x : ℕ) → x < w → pixels row x ≡ f x
+  at x u = holds x u ∙ rw (zero-mul, zero-add)
 
-  others-left : (i : ℕ) → 1 ≤ i → i < w → leftResidual p i ≡ residuals w bits D p i
+  first-black : each sub (pixels row 0) black ≡ residuals w bits D f 0
   unfolding residuals predict
-  others-left i l u = ap (each sub (p i)) (sym (predicted-left w bits D p i l u))
+  first-black = cc (at 0 wide, predicted-first w bits D f wide)
 
-  pub stored-first-row : (xs ys zs : List ℕ) (v : Pixel) → ys ≡ putPixel xs 0 v → v ≡ each sub (p 0) black → zs ≡ run pixelCells (given (leftResidual p)) 1 (w - 1) ys
-      → zs ≡ run pixelCells (given (residuals w bits D p)) 0 w xs
+  others-left : (x : ℕ) → 1 ≤ x → x < w → leftResidual (pixels row) x ≡ residuals w bits D f x
+  unfolding residuals predict
+  others-left x l u = cc (at x u, at (x - 1) (omega arith), predicted-left w bits D f x l u)
+
+  pub stored-first-row : (xs ys zs : List ℕ) (v : Pixel) → ys ≡ putPixel xs 0 v → v ≡ each sub (pixels row 0) black → zs ≡ run pixelCells (given (leftResidual (pixels row))) 1 (w - 1) ys
+      → 4 * w ≤ length xs → HoldsRow (residuals w bits D f) 0 w zs
   unfolding run given
-  stored-first-row xs ys zs v e q f =
-      let first : ys ≡ run pixelCells (given (residuals w bits D p)) 0 (1 - 0) xs = e ∙ ap (putPixel xs 0) (q ∙ sym first-black) in
-      run-then (given (residuals w bits D p)) 1 (w - 1) w xs ys zs first
-      (f ∙ given-same (leftResidual p) (residuals w bits D p) 1 ys (w - 1) (λ i l u. others-left i l (omega arith)))
-      (omega arith)
+  stored-first-row xs ys zs v e q r l =
+      let first : ys ≡ run pixelCells (given (residuals w bits D f)) 0 (1 - 0) xs = e ∙ ap (putPixel xs 0) (q ∙ first-black) in
+      let others = r ∙ given-same (leftResidual (pixels row)) (residuals w bits D f) 1 ys (w - 1) (λ x a b. others-left x a (omega arith)) in
+      held-run (given (residuals w bits D f)) (residuals w bits D f) 0 w xs zs (run-then (given (residuals w bits D f)) 1 (w - 1) w xs ys zs first others (omega arith))
+      (λ p x u m. rw (zero-mul, zero-add))
+      l
 
--- row y off the first
+-- row y off the first: `rows` holds the row above and then the row
 
-module _ (w h bits y : ℕ) (bs ps xs : List ℕ) (there : Holds w h ps) (room : Holds w h xs) (blocked : Blocked w h bits bs) (off : 1 ≤ y) (below : y < h) where
-  abbrev above : ℕ
-  above = 4 * ((y - 1) * w)
+module _ (w bits y : ℕ) (D d f : Picture) (rows : List ℕ) (off : 1 ≤ y) (blocks : (j : ℕ) → j < ceiling w (2 ^ bits) → d j ≡ D (y / 2 ^ bits * ceiling w (2 ^ bits) + j))
+    (above : HoldsRow f (y - 1) w rows) (row : (x : ℕ) → x < w → pixels rows (w + x) ≡ f (y * w + x)) where
+  up : (y - 1) * w + w ≡ y * w
+  up = row-above w y (λ z. omega arith)
 
-  -- the two rows in their part of the picture
-  agree : (j : ℕ) → j < w + w → pixels ps ((y - 1) * w + j) ≡ pixels (take (4 * (w + w)) (drop above ps)) j
-  agree j l = sym (pixel-part ((y - 1) * w) (4 * (w + w)) ps (omega (arith, pair-there w h y off below)) j (omega arith))
+  agree : (j : ℕ) → j < w + w → f ((y - 1) * w + j) ≡ pixels rows j
+  agree j l = go (decLt j w)
+    where
+      go : Dec (j < w) → f ((y - 1) * w + j) ≡ pixels rows j
+      go (yes a) = sym (above j a)
+      go (no b) =
+          let u = up in
+          let k : w + (j - w) ≡ j = omega arith in
+          let m : y * w + (j - w) ≡ (y - 1) * w + j = omega arith in
+          sym (rw (k, m) at (row (j - w) (omega arith)))
 
-  column : (d : Picture) → ((j : ℕ) → j < ceiling w (2 ^ bits) → d j ≡ pixels bs (y / 2 ^ bits * ceiling w (2 ^ bits) + j)) → (i : ℕ) → i < w
-      → residuals w bits (pixels bs) (pixels ps) (y * w + i) ≡ residual (rowPredicted w bits d) w (pixels (take (4 * (w + w)) (drop above ps))) i
+  column : (x : ℕ) → x < w → residual (rowPredicted w bits d) w (pixels rows) x ≡ residuals w bits D f (y * w + x)
   unfolding residuals
-  column d data′ i l =
-      let up = row-above w y (λ z. omega arith) in
-      let e : (y - 1) * w + (w + i) ≡ y * w + i = omega arith in
-      let q = pixels (take (4 * (w + w)) (drop above ps)) in
-      rw (← e) (cc (agree (w + i) (omega arith), row-predicted w bits y (pixels bs) d off data′ (pixels ps) q agree (w + i) (omega arith) (omega arith)))
+  column x l =
+      let u = up in
+      let e : (y - 1) * w + (w + x) ≡ y * w + x = omega arith in
+      cc (row x l, rw e at (row-predicted w bits y D d off blocks f (pixels rows) agree (w + x) (omega arith) (omega arith)))
 
-  pub stored-back : (bx j k m : ℕ) → bx ≡ ceiling w (2 ^ bits) → j ≡ 8 * w → k ≡ 4 * w → m ≡ 4 * bx
-      → back (4 * (y * w)) k xs
-      (run pixelCells (given (residual (rowPredicted w bits (pixels (take m (drop (4 * (y / 2 ^ bits * bx)) bs)))) w (pixels (take j (drop above ps))))) 0 w (take k (drop (4 * (y * w)) xs)))
-      ≡ run pixelCells (given (residuals w bits (pixels bs) (pixels ps))) (y * w) w xs
+  pub stored-row : (xs ys : List ℕ) → ys ≡ run pixelCells (given (residual (rowPredicted w bits d) w (pixels rows))) 0 w xs → 4 * w ≤ length xs → HoldsRow (residuals w bits D f) y w ys
   unfolding given
-  stored-back bx j k m e f g n =
-      let j2 : j ≡ 4 * (w + w) = omega arith in
-      let o = add-zero (y * w) in
-      rw (n, e, j2, g)
-      (part-run (given (residuals w bits (pixels bs) (pixels ps)))
-      (given (residual (rowPredicted w bits (pixels (take (4 * ceiling w (2 ^ bits)) (drop (4 * (y / 2 ^ bits * ceiling w (2 ^ bits))) bs)))) w (pixels (take (4 * (w + w)) (drop above ps)))))
-      (y * w) w 0 xs (omega (arith, row-there w h y below)) w (omega arith)
-      (λ p q i l u a. column (pixels (take (4 * ceiling w (2 ^ bits)) (drop (4 * (y / 2 ^ bits * ceiling w (2 ^ bits))) bs))) (block-part w h bits y bs ps there blocked off below (4 * ceiling w (2 ^ bits)) refl) i (omega arith))
-      ∙ ap (λ (a : ℕ). run pixelCells (given (residuals w bits (pixels bs) (pixels ps))) a w xs) o)
+  stored-row xs ys e l = held-run (given (residual (rowPredicted w bits d) w (pixels rows))) (residuals w bits D f) y w xs ys e (λ p x u m. column x u) l

@@ -4,7 +4,7 @@ use crate::segment::apply_predictor_transform_0;
 use crate::segment::apply_predictor_transform_1;
 use pixel::block::subsample_size;
 ghost use mathlib.Core.Path.{_≡_};
-ghost use Prim.Native.Nat.{_+_, _-_, _*_, _<_, _≤_};
+ghost use Prim.Native.Nat.{_*_, _<_, _≤_};
 ghost use lib.ListN.{length};
 ghost use Rattle.format.specs.Picture.{pixels, written};
 ghost use Rattle.format.specs.Predictor.{gained, fromResiduals};

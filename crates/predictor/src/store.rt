@@ -1,43 +1,43 @@
-// Pixels stored as residuals, out of the picture into the strip.
-use crate::row::store_row;
+// A row's pixels stored as residuals, into a buffer of its own.
 use format::Pixel;
 use pixel::block::subsample_size;
 use pixel::pixel::pixel_at;
 use pixel::pixel::put_pixel;
 use pixel::pixel::subtract_pixels;
 ghost use mathlib.Core.Path.{_≡_};
-ghost use Prim.Native.Nat.{_+_, _-_, _*_, _<_, _≤_};
+ghost use Prim.Native.Nat.{ℕ, _+_, _-_, _*_, _<_, _≤_};
 ghost use lib.ListN.{length};
-ghost use Rattle.format.specs.Picture.{pixels, written};
+ghost use Rattle.format.specs.Picture.{Picture, pixels};
 ghost use Rattle.format.specs.Predictor.{residuals};
 ghost use Rattle.pixel.specs.Cells.{pixelCells, run, given};
-ghost use Rattle.format.specs.Sizes.{Sized, Holds, Blocked};
+ghost use Rattle.pixel.specs.Held.{HoldsRow};
+ghost use Rattle.format.specs.Sizes.{Sized, Blocked};
 ghost use Rattle.predictor.specs.Row.{leftResidual};
 
-fn left_residual(picture: &[u8], x: usize) -> Pixel
-    requires { ⌜ (1 ≤ x) × (4 * x + 4 ≤ length (now picture)) ⌝ }
-    ensures { λ r. ⌜ r ≡ leftResidual (pixels (now (picture .entry))) x ⌝ }
+fn left_residual(row: &[u8], x: usize) -> Pixel
+    requires { ⌜ (1 ≤ x) × (4 * x + 4 ≤ length (now row)) ⌝ }
+    ensures { λ r. ⌜ r ≡ leftResidual (pixels (now (row .entry))) x ⌝ }
 {
-    subtract_pixels(pixel_at(picture, x), pixel_at(picture, x - 1))
+    subtract_pixels(pixel_at(row, x), pixel_at(row, x - 1))
 }
 
 // The columns of row 0 off the first lose L.
-fn store_left(picture: &[u8], strip: &mut [u8], width: usize)
-    requires { ⌜ (1 ≤ width) × (4 * width ≤ length (now picture)) × (4 * width ≤ length (now strip)) ⌝ }
-    ensures { λ _. ⌜ now (strip .exit) ≡ run pixelCells (given (leftResidual (pixels (now (picture .entry))))) 1 (width - 1) (now (strip .entry)) ⌝ }
+fn store_left(row: &[u8], out: &mut [u8], width: usize)
+    requires { ⌜ (1 ≤ width) × (4 * width ≤ length (now row)) × (4 * width ≤ length (now out)) ⌝ }
+    ensures { λ _. ⌜ now (out .exit) ≡ run pixelCells (given (leftResidual (pixels (now (row .entry))))) 1 (width - 1) (now (out .entry)) ⌝ }
 {
     let mut x = 1;
     while x < width {
-        let v = left_residual(picture, x);
-        put_pixel(strip, x, v);
+        let v = left_residual(row, x);
+        put_pixel(out, x, v);
         x += 1;
     }
 }
 
-// Row 0: the first pixel loses black.
-fn store_first_row(picture: &[u8], strip: &mut [u8], width: usize, bits: u32, blocks: &[u8])
-    requires { ⌜ (1 ≤ width) × (4 * width ≤ length (now picture)) × (4 * width ≤ length (now strip)) ⌝ }
-    ensures { λ _. ⌜ now (strip .exit) ≡ run pixelCells (given (residuals width bits (pixels (now (blocks .entry))) (pixels (now (picture .entry))))) 0 width (now (strip .entry)) ⌝ }
+// Row 0, whatever the blocks: the first pixel loses black.
+fn store_first_row(row: &[u8], out: &mut [u8], width: usize)
+    requires { ⌜ (1 ≤ width) × (4 * width ≤ length (now row)) × (4 * width ≤ length (now out)) ⌝ }
+    ensures { λ _. ⌜ ((bits : ℕ) (d f : Picture) → HoldsRow f 0 width (now (row .entry)) → HoldsRow (residuals width bits d f) 0 width (now (out .exit))) ⌝ }
 {
     let black = Pixel {
         red: 0,
@@ -45,82 +45,33 @@ fn store_first_row(picture: &[u8], strip: &mut [u8], width: usize, bits: u32, bl
         blue: 0,
         alpha: 255,
     };
-    let first = subtract_pixels(pixel_at(picture, 0), black);
-    put_pixel(strip, 0, first);
-    store_left(picture, strip, width);
+    let first = subtract_pixels(pixel_at(row, 0), black);
+    put_pixel(out, 0, first);
+    store_left(row, out, width);
 }
 
-// A row off the first.
-fn store_row_below(
-    picture: &[u8],
-    strip: &mut [u8],
+// Row y, out of `rows`, which holds the row above and then the row. Where y is 0 there is no row above, and the first half of `rows` is not looked at.
+pub fn store_row(
+    rows: &[u8],
+    out: &mut [u8],
     width: usize,
     height: usize,
     bits: u32,
     blocks: &[u8],
     y: usize,
 )
-    requires { ⌜ Sized width height ⌝ }
-    requires { ⌜ Holds width height (now picture) × Holds width height (now strip) ⌝ }
-    requires { ⌜ Blocked width height bits (now blocks) ⌝ }
-    requires { ⌜ (1 ≤ y) × (y < height) ⌝ }
-    ensures { λ _. ⌜ now (strip .exit) ≡ run pixelCells (given (residuals width bits (pixels (now (blocks .entry))) (pixels (now (picture .entry))))) (y * width) width (now (strip .entry)) ⌝ }
-{
-    let bx = subsample_size(width, bits);
-    let above = y - 1;
-    let a = 4 * (above * width);
-    let b = a + 8 * width;
-    let c = 4 * (y * width);
-    let d = c + 4 * width;
-    let from = 4 * ((y >> bits) * bx);
-    let to = from + 4 * bx;
-    store_row(
-        &picture[a..b],
-        &mut strip[c..d],
-        width,
-        bits,
-        &blocks[from..to],
-    );
-}
-
-pub fn store_row_at(
-    picture: &[u8],
-    strip: &mut [u8],
-    width: usize,
-    height: usize,
-    bits: u32,
-    blocks: &[u8],
-    y: usize,
-)
-    requires { ⌜ Sized width height ⌝ }
-    requires { ⌜ Holds width height (now picture) × Holds width height (now strip) ⌝ }
-    requires { ⌜ Blocked width height bits (now blocks) ⌝ }
-    requires { ⌜ y < height ⌝ }
-    ensures { λ _. ⌜ now (strip .exit) ≡ run pixelCells (given (residuals width bits (pixels (now (blocks .entry))) (pixels (now (picture .entry))))) (y * width) width (now (strip .entry)) ⌝ }
+    requires { ⌜ Sized width height × Blocked width height bits (now blocks) × (y < height) ⌝ }
+    requires { ⌜ (length (now rows) ≡ 8 * width) × (length (now out) ≡ 4 * width) ⌝ }
+    ensures { λ _. ⌜ ((f : Picture) → (1 ≤ y → HoldsRow f (y - 1) width (now (rows .entry))) → ((x : ℕ) → x < width → pixels (now (rows .entry)) (width + x) ≡ f (y * width + x)) → HoldsRow (residuals width bits (pixels (now (blocks .entry))) f) y width (now (out .exit))) ⌝ }
 {
     if y == 0 {
-        store_first_row(picture, strip, width, bits, blocks);
+        let a = 4 * width;
+        let b = a + 4 * width;
+        store_first_row(&rows[a..b], out, width);
     } else {
-        store_row_below(picture, strip, width, height, bits, blocks, y);
-    }
-}
-
-pub fn store_predictor_transform(
-    picture: &[u8],
-    strip: &mut [u8],
-    width: usize,
-    height: usize,
-    bits: u32,
-    blocks: &[u8],
-)
-    requires { ⌜ Sized width height ⌝ }
-    requires { ⌜ Holds width height (now picture) × Holds width height (now strip) ⌝ }
-    requires { ⌜ Blocked width height bits (now blocks) ⌝ }
-    ensures { λ _. ⌜ now (strip .exit) ≡ written (height * width) (residuals width bits (pixels (now (blocks .entry))) (pixels (now (picture .entry)))) (now (strip .entry)) ⌝ }
-{
-    let mut y = 0;
-    while y < height {
-        store_row_at(picture, strip, width, height, bits, blocks, y);
-        y += 1;
+        let bx = subsample_size(width, bits);
+        let from = 4 * ((y >> bits) * bx);
+        let to = from + 4 * bx;
+        crate::row::store_row(rows, out, width, bits, &blocks[from..to]);
     }
 }

@@ -6,7 +6,7 @@ use borrow.Author.Needs.{needs}
 use lib.ListN.{length}
 use Rattle.format.specs.Picture.{pixels}
 use Rattle.format.specs.Color.{inverseColor, colorRebuilt}
-use Rattle.color.specs.Row.{inPlace, pointwise, inPicture}
+use Rattle.color.specs.Row.{pointwise, inPicture}
 use Rattle.pixel.specs.Cells.{pixelCells, run}
 use Rattle.pixel.proofs.Rows.{no-rows, row-more}
 use Rattle.color.proofs.Pointwise.{finished}
@@ -15,7 +15,7 @@ use Rattle.color.proofs.color.apply_color_transform.Tie as tie
 
 abbrev Inv-loop : tie.InvT-loop
 Inv-loop image₀ width height bits blocks y₀ image y =
-    (y ≤ height) × (length image ≡ length image₀) × (image ≡ run pixelCells (pointwise (inPicture inverseColor width bits (pixels blocks)) inPlace) 0 (y * width) image₀)
+    (y ≤ height) × (length image ≡ length image₀) × (image ≡ run pixelCells (pointwise (inPicture inverseColor width bits (pixels blocks))) 0 (y * width) image₀)
 
 abbrev μ-loop : tie.MeasureT-loop
 μ-loop image₀ width height bits blocks y₀ image y = height - y
@@ -36,4 +36,4 @@ apply-color-transform-spec =
     let l = g .before .before .before .loop .inv in
     (omega arith, g .rebuild-row-at .kept .0 ∙ l .1, row-more _ _ _ _ _ _ (l .2) (g .rebuild-row-at .ensures)))
     (λ c. search needs)
-    (λ c. finished _ _ _ _ _ _ _ _ (c .before .loop .inv .2) (λ p q e. e) (omega arith) (omega arith)))
+    (λ c. finished _ _ _ _ _ _ (c .before .loop .inv .2) (omega arith) (omega arith)))

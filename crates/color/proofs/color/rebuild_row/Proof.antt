@@ -7,7 +7,7 @@ use lib.ListN.{length}
 use Rattle.format.specs.Picture.{pixels}
 use Rattle.format.specs.Color.{inverseColor}
 use Rattle.pixel.specs.Cells.{pixelCells, run}
-use Rattle.color.specs.Row.{inPlace, pointwise, inRow}
+use Rattle.color.specs.Row.{pointwise, inRow}
 use Rattle.pixel.proofs.Blocks.{block-there}
 use Rattle.color.proofs.Blocks.{block-more}
 use Rattle.pixel.proofs.Rows.{run-zero, run-all}
@@ -16,7 +16,7 @@ use Rattle.color.proofs.color.rebuild_row.Tie as tie
 
 abbrev Inv-loop : tie.InvT-loop
 Inv-loop row₀ width bits blocks x₀ row x =
-    (x ≤ width) × (length row ≡ length row₀) × (row ≡ run pixelCells (pointwise (inRow inverseColor bits (pixels blocks)) inPlace) 0 x row₀)
+    (x ≤ width) × (length row ≡ length row₀) × (row ≡ run pixelCells (pointwise (inRow inverseColor bits (pixels blocks))) 0 x row₀)
 
 abbrev μ-loop : tie.MeasureT-loop
 μ-loop row₀ width bits blocks x₀ row x = width - x
@@ -42,7 +42,7 @@ rebuild-row-spec =
     let l = b .before .before .loop .inv in (
       omega arith,
       g .rebuild-segment .kept .0 ∙ l .1,
-      block-more inverseColor _ _ _ _ _ _ _ _ _ _ (l .2) (g .rebuild-segment .ensures) (g .before .pixel-at .ensures) (b .block-end .ensures),
+      block-more inverseColor _ _ _ _ _ _ _ _ _ (l .2) (g .rebuild-segment .ensures) (g .before .pixel-at .ensures) (b .block-end .ensures),
     ))
     (λ c. search needs)
     (λ c. run-all _ _ _ _ _ (c .before .loop .inv .2) (omega arith)))

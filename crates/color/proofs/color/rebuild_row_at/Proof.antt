@@ -4,7 +4,7 @@ use native.Mathlib.Omega.{arith}
 use borrow.Author.Needs.{needs}
 use lib.ListN.{length}
 use Rattle.format.specs.Color.{inverseColor}
-use Rattle.pixel.proofs.Blocks.{row-there, blocks-there}
+use Rattle.pixel.proofs.Blocks.{row-there, data-there}
 use Rattle.color.proofs.Blocks.{row-blocks}
 use Rattle.color.proofs.Pointwise.{lent}
 use Rattle.color.proofs.color.rebuild_row_at.Statement.{statement}
@@ -17,9 +17,7 @@ there s = row-there (s .args .width) (s .args .height) (s .args .y) (omega arith
 -- and so are the data of its row of blocks
 bx : (c : tie.After-subsample-size)
     → 4 * (c .before .before .before .args .y / 2 ^ c .before .before .before .args .bits * c .subsample-size .result) + 4 * c .subsample-size .result ≤ length (c .before .before .before .args .blocks .now)
-bx c =
-    let a = c .before .before .before .args in
-    rw (c .subsample-size .ensures) (omega (arith, blocks-there (a .width) (a .height) (a .bits) (a .y) (omega arith)))
+bx c = let p = c .before .before .before .pre in data-there _ _ _ _ _ (p .0 .1) (p .0 .2) _ (c .subsample-size .ensures)
 
 pub rebuild-row-at-spec : {M : Type 1} → statement M
 rebuild-row-at-spec =
@@ -46,6 +44,8 @@ rebuild-row-at-spec =
     (λ c.
     let r = c .before .before in
     let z = r .before .before .before in
-    let a = z .before .before .before .args in
-    lent _ _ _ _ (a .y * a .width) (a .width) _ _ (r .rebuild-row .ensures) (row-blocks inverseColor (a .width) (a .bits) (a .y) _ _ (z .subsample-size .ensures) (bx z))
-    (λ p q i l e. e) (omega (arith, there (z .before .before .before)))))
+    let s = z .before .before .before in
+    let a = s .args in
+    lent _ _ (a .y) (a .width) _ _ (r .rebuild-row .ensures)
+    (row-blocks inverseColor (a .width) _ (a .bits) (a .y) _ (s .pre .0 .1) (s .pre .0 .2) _ (z .subsample-size .ensures))
+    (omega (arith, there s))))

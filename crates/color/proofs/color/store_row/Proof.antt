@@ -1,48 +1,43 @@
--- `store_row` meets its contract: before each turn the columns before x are stored, and a turn takes them to the end of a block.
-use mathlib.Core.Path.{_≡_, refl, _∙_}
-use Prim.Native.Nat.{_-_, _≤_}
+-- `store_row` meets its contract: the part of the data that is lent has the blocks of row y.
+use Prim.Native.Nat.{_+_, _*_, _/_, _^_, _≤_}
 use native.Mathlib.Omega.{arith}
 use borrow.Author.Needs.{needs}
 use lib.ListN.{length}
 use Rattle.format.specs.Picture.{pixels}
-use Rattle.format.specs.Color.{transformColor}
-use Rattle.pixel.specs.Cells.{pixelCells, run}
-use Rattle.color.specs.Row.{outOf, pointwise, inRow}
-use Rattle.pixel.proofs.Blocks.{block-there}
-use Rattle.color.proofs.Blocks.{block-more}
-use Rattle.pixel.proofs.Rows.{run-zero, run-all}
+use Rattle.format.specs.Color.{transformColor, colorStored}
+use Rattle.pixel.proofs.Blocks.{data-there}
+use Rattle.color.specs.Row.{inPicture}
+use Rattle.color.proofs.Blocks.{row-blocks}
+use Rattle.color.proofs.Pointwise.{held}
 use Rattle.color.proofs.color.store_row.Statement.{statement}
 use Rattle.color.proofs.color.store_row.Tie as tie
 
-abbrev Inv-loop : tie.InvT-loop
-Inv-loop row out₀ width bits blocks x₀ out x =
-    (x ≤ width) × (length out ≡ length out₀) × (out ≡ run pixelCells (pointwise (inRow transformColor bits (pixels blocks)) (outOf (pixels row))) 0 x out₀)
-
-abbrev μ-loop : tie.MeasureT-loop
-μ-loop row out₀ width bits blocks x₀ out x = width - x
+-- the data of the row's blocks
+bx : (c : tie.After-subsample-size)
+    → 4 * (c .before .before .before .args .y / 2 ^ c .before .before .before .args .bits * c .subsample-size .result) + 4 * c .subsample-size .result ≤ length (c .before .before .before .args .blocks .now)
+bx c = let p = c .before .before .before .pre in data-there _ _ _ _ _ (p .0 .1) (p .0 .2) _ (c .subsample-size .ensures)
 
 pub store-row-spec : {M : Type 1} → statement M
+unfolding colorStored
 store-row-spec =
     tie.close
     (tie.spec
-    Inv-loop
-    μ-loop
-    (λ c. (omega arith, refl, run-zero _ _))
-    (λ c κs. omega arith)
-    (λ c. omega arith)
-    (λ c κs.
-    let l = c .before .before .before in
-    let a = l .before .before .before .before .args in
-    omega (arith, block-there (a .width) (a .bits) (l .loop .x) (omega arith)))
-    (λ c κs. omega arith)
-    (λ c. omega arith)
-    (λ c.
-    let g = c .before .before in
-    let b = g .before .before .before in
-    let l = b .before .before .loop .inv in (
-      omega arith,
-      g .store-segment .kept .1 .0 ∙ l .1,
-      block-more transformColor _ _ _ _ _ _ _ _ _ _ (l .2) (g .store-segment .ensures) (g .before .pixel-at .ensures) (b .block-end .ensures),
-    ))
+    (λ c κs. search needs)
     (λ c. search needs)
-    (λ c. run-all _ _ _ _ _ (c .before .loop .inv .2) (omega arith)))
+    (λ c. omega (arith, bx c))
+    (λ c. omega (arith, bx c))
+    (λ c. omega (arith, bx c))
+    (λ c. omega (arith, bx c))
+    (λ c. search needs)
+    (λ c. search needs)
+    (λ c. omega (arith, bx (c .before)))
+    (λ c κs. search needs)
+    (λ c. search needs)
+    (λ c.
+    let r = c .before .before in
+    let z = r .before .before .before in
+    let s = z .before .before .before in
+    let a = s .args in
+    held (inPicture transformColor (a .width) (a .bits) (pixels (a .blocks .now))) _ (a .y) (a .width) _ _ (r .store-segments .ensures)
+    (row-blocks transformColor (a .width) _ (a .bits) (a .y) _ (s .pre .0 .1) (s .pre .0 .2) _ (z .subsample-size .ensures))
+    (s .pre .1)))

@@ -5,7 +5,7 @@ use native.Mathlib.Omega.{arith}
 use borrow.Author.Needs.{needs}
 use lib.ListN.{length}
 use Rattle.format.specs.SubtractGreen.{addGreen, greenRebuilt}
-use Rattle.color.specs.Row.{inPlace, pointwise, everywhere}
+use Rattle.color.specs.Row.{pointwise, everywhere}
 use Rattle.pixel.specs.Cells.{pixelCells, run}
 use Rattle.pixel.proofs.Rows.{no-rows, row-more}
 use Rattle.color.proofs.Pointwise.{finished}
@@ -14,7 +14,7 @@ use Rattle.color.proofs.subtract_green.apply_subtract_green_transform.T
 
 abbrev Inv-loop : tie.InvT-loop
 Inv-loop image₀ width height y₀ image y =
-    (y ≤ height) × (length image ≡ length image₀) × (image ≡ run pixelCells (pointwise (everywhere addGreen) inPlace) 0 (y * width) image₀)
+    (y ≤ height) × (length image ≡ length image₀) × (image ≡ run pixelCells (pointwise (everywhere addGreen)) 0 (y * width) image₀)
 
 abbrev μ-loop : tie.MeasureT-loop
 μ-loop image₀ width height y₀ image y = height - y
@@ -35,4 +35,4 @@ apply-subtract-green-transform-spec =
     let l = g .before .before .before .loop .inv in
     (omega arith, g .rebuild-row-at .kept .0 ∙ l .1, row-more _ _ _ _ _ _ (l .2) (g .rebuild-row-at .ensures)))
     (λ c. search needs)
-    (λ c. finished _ _ _ _ _ _ _ _ (c .before .loop .inv .2) (λ p q e. e) (omega arith) (omega arith)))
+    (λ c. finished _ _ _ _ _ _ (c .before .loop .inv .2) (omega arith) (omega arith)))

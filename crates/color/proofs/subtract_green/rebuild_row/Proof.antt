@@ -7,7 +7,7 @@ use lib.ListN.{length}
 use Rattle.format.specs.SubtractGreen.{addGreen}
 use Rattle.pixel.specs.Cells.{pixelCells, run}
 use Rattle.pixel.proofs.Cells.{run-none}
-use Rattle.color.specs.Row.{inPlace, pointwise, everywhere}
+use Rattle.color.specs.Row.{pointwise, everywhere}
 use Rattle.pixel.proofs.Rows.{run-all}
 use Rattle.color.proofs.Pointwise.{turn}
 use Rattle.color.proofs.subtract_green.rebuild_row.Statement.{statement}
@@ -15,7 +15,7 @@ use Rattle.color.proofs.subtract_green.rebuild_row.Tie as tie
 
 abbrev Inv-loop : tie.InvT-loop
 Inv-loop row₀ width i₀ row i =
-    (i ≤ width) × (length row ≡ length row₀) × (row ≡ run pixelCells (pointwise (everywhere addGreen) inPlace) 0 (i - 0) row₀)
+    (i ≤ width) × (length row ≡ length row₀) × (row ≡ run pixelCells (pointwise (everywhere addGreen)) 0 (i - 0) row₀)
 
 abbrev μ-loop : tie.MeasureT-loop
 μ-loop row₀ width i₀ row i = width - i
@@ -38,7 +38,7 @@ rebuild-row-spec =
     let p = c .before .before .write-pixel in (
       omega arith,
       p .kept .0 ∙ l .1,
-      turn _ _ _ _ _ _ _ _ _ (l .2) (v .before .read-pixel .ensures) (v .rebuild-pixel .ensures) (p .ensures) (omega arith),
+      turn _ _ _ _ _ _ _ _ (l .2) (v .before .read-pixel .ensures) (v .rebuild-pixel .ensures) (p .ensures) (omega arith),
     ))
     (λ c. search needs)
     (λ c. run-all _ _ _ _ _ (c .before .loop .inv .2) (omega arith)))

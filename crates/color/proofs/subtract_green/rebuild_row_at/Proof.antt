@@ -28,4 +28,4 @@ rebuild-row-at-spec =
     (λ c.
     let r = c .before .before in
     let s = r .before .before .before in
-    lent _ _ _ _ (s .args .y * s .args .width) (s .args .width) _ _ (r .rebuild-row .ensures) (λ i l v. refl) (λ p q i l e. e) (omega (arith, there s))))
+    lent _ _ (s .args .y) (s .args .width) _ _ (r .rebuild-row .ensures) (λ i l v. refl) (omega (arith, there s))))

@@ -4,24 +4,24 @@ use Prim.Native.Nat.{_≤_, _-_}
 use native.Mathlib.Omega.{arith}
 use borrow.Author.Needs.{needs}
 use lib.ListN.{length}
-use Rattle.format.specs.Picture.{pixels}
-use Rattle.format.specs.SubtractGreen.{subtractGreen}
+use Rattle.format.specs.SubtractGreen.{subtractGreen, greenStored}
 use Rattle.pixel.specs.Cells.{pixelCells, run}
 use Rattle.pixel.proofs.Cells.{run-none}
-use Rattle.color.specs.Row.{outOf, pointwise, everywhere}
+use Rattle.color.specs.Row.{pointwise, everywhere}
 use Rattle.pixel.proofs.Rows.{run-all}
-use Rattle.color.proofs.Pointwise.{turn}
+use Rattle.color.proofs.Pointwise.{turn, held}
 use Rattle.color.proofs.subtract_green.store_row.Statement.{statement}
 use Rattle.color.proofs.subtract_green.store_row.Tie as tie
 
 abbrev Inv-loop : tie.InvT-loop
-Inv-loop row out₀ width i₀ out i =
-    (i ≤ width) × (length out ≡ length out₀) × (out ≡ run pixelCells (pointwise (everywhere subtractGreen) (outOf (pixels row))) 0 (i - 0) out₀)
+Inv-loop row₀ width i₀ row i =
+    (i ≤ width) × (length row ≡ length row₀) × (row ≡ run pixelCells (pointwise (everywhere subtractGreen)) 0 (i - 0) row₀)
 
 abbrev μ-loop : tie.MeasureT-loop
-μ-loop row out₀ width i₀ out i = width - i
+μ-loop row₀ width i₀ row i = width - i
 
 pub store-row-spec : {M : Type 1} → statement M
+unfolding greenStored
 store-row-spec =
     tie.close
     (tie.spec
@@ -35,11 +35,11 @@ store-row-spec =
     (λ c. omega arith)
     (λ c.
     let v = c .before .before .before .before in
-    let l = v .before .before .before .loop .inv in
+    let l = v .before .before .before .before .loop .inv in
     let p = c .before .before .write-pixel in (
       omega arith,
       p .kept .0 ∙ l .1,
-      turn _ _ _ _ _ _ _ _ _ (l .2) (v .before .read-pixel .ensures) (v .store-pixel .ensures) (p .ensures) (omega arith),
+      turn _ _ _ _ _ _ _ _ (l .2) (v .before .read-pixel .ensures) (v .store-pixel .ensures) (p .ensures) (omega arith),
     ))
     (λ c. search needs)
-    (λ c. run-all _ _ _ _ _ (c .before .loop .inv .2) (omega arith)))
+    (λ c f y h. held (everywhere subtractGreen) _ _ _ _ _ (run-all _ _ _ _ _ (c .before .loop .inv .2) (omega arith)) (λ i l v. refl) (omega arith) f h))

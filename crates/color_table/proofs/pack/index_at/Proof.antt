@@ -1,7 +1,8 @@
--- `index_at` meets its contract.
+-- `index_at` meets its contract: an index is below the table's size, and that is below the base.
 use native.Mathlib.Omega.{arith}
 use borrow.Author.Needs.{needs}
 use Rattle.color_table.proofs.Index.{row-inside, row-beyond}
+use Rattle.color_table.proofs.Digits.{base-of}
 use Rattle.color_table.proofs.pack.index_at.Statement.{statement}
 use Rattle.color_table.proofs.pack.index_at.Tie as tie
 
@@ -12,10 +13,14 @@ index-at-spec =
     (λ c. search needs)
     (λ c κs. search needs)
     (λ c κs. search needs)
-    (λ c. search needs)
     (λ c.
-    let s = c .before .before .before .before .before .before .before .before .before in
-    let f = c .before .before .find in
-    let r = row-inside _ _ _ (s .args .width) (s .args .a) (s .args .k) _ _ (s .pre .1 .1) (c .before .before .before .pixel-at .ensures) (f .ensures .0) (omega arith) in
-    (r .0, r .1, f .ensures .1))
-    (λ c. let s = c .before .before .before .before in (row-beyond _ _ _ _ _ _ (omega arith), omega arith, s .pre .1 .0)))
+    let s = c .before .before .before .before .before .before in
+    let row = s .pre .1 .0 in
+    let base = base-of _ _ _ (s .pre .0 .most) (row .places) (row .base) in
+    let r = row-inside _ _ _ (s .args .width) (s .args .a) (s .args .k) _ _ (row .taken) (c .before .word-at .ensures) (c .find .ensures) (omega arith) in
+    (r .0, omega arith))
+    (λ c.
+    let s = c .before .before .before .before in
+    let row = s .pre .1 .0 in
+    let base = base-of _ _ _ (s .pre .0 .most) (row .places) (row .base) in
+    (row-beyond _ _ _ _ _ _ (omega arith), omega arith)))

@@ -47,8 +47,5 @@ rebuild-row-below-spec =
     let p = s .pre in
     let a = 4 * ((s .args .y - 1) * s .args .width) in
     let k : a + 8 * s .args .width - a ≡ 8 * s .args .width = omega arith in
-    let bx = d .subsample-size .result in
-    let f = 4 * (s .args .y / 2 ^ s .args .bits * bx) in
-    let m : f + 4 * bx - f ≡ 4 * bx = omega arith in
     rw (c .before .before .rebuild-row .ensures)
-    (row-back _ _ _ _ _ (s .args .image .now) (p .1 .0) (p .1 .1 .0) (p .1 .1 .1 .0) (p .1 .1 .1 .1) _ _ _ (d .subsample-size .ensures) k m)))
+    (row-back _ _ _ _ _ (s .args .image .now) (p .1 .0) (p .1 .1 .0) (p .1 .1 .1 .0) (p .1 .1 .1 .1) _ _ (d .subsample-size .ensures) k)))

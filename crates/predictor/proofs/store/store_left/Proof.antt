@@ -13,11 +13,11 @@ use Rattle.predictor.proofs.store.store_left.Statement.{statement}
 use Rattle.predictor.proofs.store.store_left.Tie as tie
 
 abbrev Inv-loop : tie.InvT-loop
-Inv-loop picture strip₀ width x₀ strip x =
-    (1 ≤ x) × (x ≤ width) × (length strip ≡ length strip₀) × (strip ≡ run pixelCells (given (leftResidual (pixels picture))) 1 (x - 1) strip₀)
+Inv-loop row out₀ width x₀ out x =
+    (1 ≤ x) × (x ≤ width) × (length out ≡ length out₀) × (out ≡ run pixelCells (given (leftResidual (pixels row))) 1 (x - 1) out₀)
 
 abbrev μ-loop : tie.MeasureT-loop
-μ-loop picture strip₀ width x₀ strip x = width - x
+μ-loop row out₀ width x₀ out x = width - x
 
 pub store-left-spec : {M : Type 1} → statement M
 unfolding given

@@ -1,0 +1,37 @@
+-- The part of the data that a valid record names, as the code lends it.
+use mathlib.Core.List.{List}
+use mathlib.Core.Path.{_≡_, sym, ap, _∙_}
+use Prim.Native.Nat.{ℕ, _+_, _-_, _*_, _≤_}
+use native.Mathlib.Omega.{arith}
+use lib.ListN.{length, take, drop, length-drop}
+use lib.Seq.{length-take-le}
+use Rattle.format.specs.declared.Step.{Step}
+use Rattle.format.specs.Picture.{Picture, written}
+use Rattle.format.specs.Sizes.{Blocked}
+use Rattle.format.specs.ValidStep.{ValidStep}
+
+module _ (s : Step) (h : ℕ) (ds : List ℕ) (valid : ValidStep s h (length ds)) where
+  abbrev part : List ℕ
+  part = take (s .offset + s .length - s .offset) (drop (s .offset) ds)
+
+  part-length : length part ≡ s .length
+  part-length =
+      let i = valid .inside in
+      length-take-le (s .offset + s .length - s .offset) (drop (s .offset) ds) (rw (length-drop (s .offset) ds) (omega arith)) ∙ omega arith
+
+  pub part-blocks : s .kind ≤ 1 → Blocked (s .width) h (s .bits) part
+  part-blocks l = record { least = valid .blocks l .least; most = valid .blocks l .most; there = let e = valid .blocks l .long in let p = part-length in omega arith }
+
+  pub part-entries : s .kind ≡ 3 → 4 * s .size ≤ length part
+  part-entries e = let q = valid .table e .long in let p = part-length in omega arith
+
+-- a valid record of none of the other kinds
+pub table-kind : (s : Step) (h n : ℕ) → ValidStep s h n → (((Unit {0} × (s .kind ≡ 0 → ⊥)) × (s .kind ≡ 1 → ⊥)) × (s .kind ≡ 2 → ⊥)) → s .kind ≡ 3
+table-kind s h n valid r = let l = valid .known in three (s .kind) l (r .0 .0 .1) (r .0 .1) (r .1)
+  where
+    three : (k : ℕ) → k ≤ 3 → (k ≡ 0 → ⊥) → (k ≡ 1 → ⊥) → (k ≡ 2 → ⊥) → k ≡ 3
+    three k l a b c = omega arith
+
+-- a transform under its two names
+pub as-kind : (n : ℕ) (f g : Picture) (xs ys : List ℕ) → f ≡ g → ys ≡ written n g xs → ys ≡ written n f xs
+as-kind n f g xs ys e q = q ∙ ap (λ (k : Picture). written n k xs) (sym e)

@@ -1,0 +1,124 @@
+-- The number and the bytes of `store` at each of its returns, and the records of a valid chain as values.
+use mathlib.Core.Bool.{Bool, true, false, _&&_}
+use mathlib.Core.List.{List}
+use mathlib.Core.Path.{_≡_, refl, sym, ap, _∙_}
+use Prim.Native.Nat.{ℕ, zero, suc, _+_, _*_, _<_, _≤_}
+use native.Mathlib.Nat.{mul-le-mul}
+use native.Mathlib.Omega.{arith}
+use borrow.Author.Tests.{le-leb, lt-leb}
+use lib.Dec.{leb}
+use lib.ListN.{length}
+use Rattle.format.specs.declared.Step.{Step}
+use Rattle.format.specs.Choice.{if_then_else_}
+use Rattle.format.specs.Picture.{pixels, written}
+use Rattle.format.specs.Sizes.{Sized}
+use Rattle.format.specs.Chain.{recordAt, narrowed, widthAt, stepAt, count}
+use Rattle.format.specs.Refusals.{chainRefusal, _before_, _unless_}
+use Rattle.format.specs.Stages.{stored, accepts}
+use Rattle.format.specs.Calls.{holds, records, storeAnswer, storeStrip}
+use Rattle.format.proofs.Valid.{before-none, before-some, valid-sized, valid-count, valid-step, valid-once}
+use Rattle.format.proofs.Stages.{width-record, widthAt-fewer, stored-steps, accepts-steps}
+use Rattle.format.proofs.Calls.{store-accepts, storeStrip-accepted, storeStrip-refused}
+use Rattle.chain.specs.declared.Chain.{Chain}
+use Rattle.chain.specs.Reading.{ChainOf}
+use Rattle.store.specs.Stage.{Ready, Stored, stepsIn, widthAfter}
+
+-- records
+
+width-after : (cs : List ℕ) (w k : ℕ) → widthAfter (stepAt cs w) w k ≡ widthAt cs w k
+unfolding widthAt
+width-after cs w zero = refl
+width-after cs w (suc k) = refl
+
+module _ (w h n : ℕ) (cs : List ℕ) (c : Chain) (valid : chainRefusal w h cs n ≡ 0) (of : ChainOf w cs c) where
+  step-is : (k : ℕ) → k < c .count → stepsIn (c .steps) k ≡ stepAt cs w k
+  step-is k l = of .steps .at k (let e = of .count in omega arith)
+
+  after-is : (k : ℕ) → k ≤ c .count → widthAfter (stepsIn (c .steps)) w k ≡ widthAt cs w k
+  after-is zero l = width-after cs w 0
+  after-is (suc k) l = ap narrowed (step-is k (omega arith)) ∙ width-after cs w (suc k)
+
+  pub ready-of : Ready (stepsIn (c .steps)) (c .count) w h n
+  ready-of = record {
+    sized = valid-sized w h cs n valid;
+    few = let e = of .count in let f = valid-count w h cs n valid in omega arith;
+    valid = λ k l. rw (step-is k l) (valid-step w h cs n valid k (let e = of .count in omega arith));
+    width = λ k l. ap (λ (s : Step). s .width) (step-is k l) ∙ width-record cs k (widthAt cs w k) ∙ sym (after-is k (omega arith));
+    once = λ j k i l e. valid-once w h cs n valid k (let q = of .count in omega arith) j i (sym (ap (λ (s : Step). s .kind) (step-is j (omega arith))) ∙ e ∙ ap (λ (s : Step). s .kind) (step-is k l));
+  }
+
+  pub last-of : c .width ≡ widthAfter (stepsIn (c .steps)) w (c .count)
+  last-of = of .width ∙ ap (widthAt cs w) (sym (of .count)) ∙ sym (after-is (c .count) (omega arith))
+
+-- a strip's records can be counted
+pub strip-small : (w h n : ℕ) (cs : List ℕ) (c : Chain) → chainRefusal w h cs n ≡ 0 → ChainOf w cs c → h * c .width ≤ 16384 * 16384
+strip-small w h n cs c valid of =
+    let s = valid-sized w h cs n valid in
+    let f = widthAt-fewer cs w (count cs) in
+    let e = of .width in
+    let x : c .width ≤ 16384 = let m = s .narrow in omega arith in
+    mul-le-mul (s .low) x
+
+pub area-small : (w h n : ℕ) (cs : List ℕ) → chainRefusal w h cs n ≡ 0 → h * w ≤ 16384 * 16384
+area-small w h n cs valid = let s = valid-sized w h cs n valid in mul-le-mul (s .low) (s .narrow)
+
+-- answers
+
+and-false : (a b : Bool) → b ≡ false → (a && b) ≡ false
+and-false true b e = e
+and-false false b e = refl
+
+module _ (w h : ℕ) (cs ds picture strip : List ℕ) where
+  abbrev Answered : ℕ → List ℕ → Type 0
+  Answered r ys = (r ≡ storeAnswer w h cs ds picture strip) × (ys ≡ storeStrip w h cs ds picture strip)
+
+  refused : (r : ℕ) → r ≡ storeAnswer w h cs ds picture strip → (r ≡ 0 → ⊥) → Answered r strip
+  refused r e d = (e, sym (storeStrip-refused w h cs ds picture strip (λ z. d (e ∙ z))))
+
+  -- refusals 1 to 7
+  pub refused-chain : (r : ℕ) → r ≡ chainRefusal w h cs (length ds) → (r ≡ 0 → ⊥) → Answered r strip
+  unfolding storeAnswer
+  refused-chain r e d = refused r (e ∙ sym (before-some (chainRefusal w h cs (length ds)) _ (λ z. d (e ∙ z)))) d
+
+  -- 8
+  short : chainRefusal w h cs (length ds) ≡ 0 → (holds picture (h * w) && holds strip (records w h cs)) ≡ false → Answered 8 strip
+  unfolding storeAnswer
+  short e q = refused 8 (sym (before-none (chainRefusal w h cs (length ds)) _ e ∙ rw q refl)) (λ z. omega arith)
+
+  pub refused-picture : chainRefusal w h cs (length ds) ≡ 0 → length picture < 4 * (h * w) → Answered 8 strip
+  refused-picture e l = short e (rw (lt-leb (4 * (h * w)) (length picture) l) refl)
+
+  module _ (c : Chain) (valid : chainRefusal w h cs (length ds) ≡ 0) (of : ChainOf w cs c) where
+    pub refused-strip : length strip < 4 * (h * c .width) → Answered 8 strip
+    refused-strip l = short valid (and-false (holds picture (h * w)) (holds strip (records w h cs)) (lt-leb (4 * (h * widthAt cs w (count cs))) (length strip) (let e = of .width in rw (← e) l)))
+
+    refusal : 4 * (h * w) ≤ length picture → 4 * (h * c .width) ≤ length strip → accepts (stepAt cs w) h ds (count cs) (pixels picture) ≡ false → storeAnswer w h cs ds picture strip ≡ 21
+    unfolding storeAnswer
+    refusal room fits q =
+        before-none (chainRefusal w h cs (length ds)) _ valid
+        ∙ rw (le-leb (4 * (h * w)) (length picture) room, le-leb (4 * (h * widthAt cs w (count cs))) (length strip) (rw (← of .width) fits), q) refl
+
+    -- 21, or the strip
+    pub answered : (r : ℕ) (ys : List ℕ) → 4 * (h * w) ≤ length picture → 4 * (h * c .width) ≤ length strip → Stored (stepsIn (c .steps)) (c .count) (c .width) h ds picture strip r ys → Answered r ys
+    answered r ys room fits s = go (accepts (stepAt cs w) h ds (count cs) (pixels picture)) refl
+      where
+        steps-are : (k : ℕ) → k < count cs → stepsIn (c .steps) k ≡ stepAt cs w k
+        steps-are k l = of .steps .at k l
+
+        same : accepts (stepsIn (c .steps)) h ds (c .count) (pixels picture) ≡ accepts (stepAt cs w) h ds (count cs) (pixels picture)
+        same = ap (λ (k : ℕ). accepts (stepsIn (c .steps)) h ds k (pixels picture)) (of .count) ∙ accepts-steps (stepsIn (c .steps)) (stepAt cs w) h ds (pixels picture) (count cs) steps-are
+
+        made : stored (stepsIn (c .steps)) ds (c .count) (pixels picture) ≡ stored (stepAt cs w) ds (count cs) (pixels picture)
+        made = ap (λ (k : ℕ). stored (stepsIn (c .steps)) ds k (pixels picture)) (of .count) ∙ stored-steps (stepsIn (c .steps)) (stepAt cs w) h ds (pixels picture) (count cs) steps-are
+
+        wide : h * c .width ≡ records w h cs
+        wide = ap (λ (x : ℕ). h * x) (of .width)
+
+        go : (b : Bool) → accepts (stepAt cs w) h ds (count cs) (pixels picture) ≡ b → Answered r ys
+        go true q =
+            let a = store-accepts w h cs ds picture strip valid room (rw (← wide) fits) q in
+            (s .answer ∙ rw (same, q) (sym a), s .bytes ∙ rw (same, q, made, wide) (sym (storeStrip-accepted w h cs ds picture strip a)))
+        go false q =
+            let e : r ≡ 21 = s .answer ∙ rw (same, q) refl in
+            let z : ys ≡ strip = s .bytes ∙ rw (same, q) refl in
+            rw (z) (refused r (e ∙ sym (refusal room fits q)) (λ n. let k = sym e ∙ n in omega arith))

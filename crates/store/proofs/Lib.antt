@@ -1,0 +1,10 @@
+pub mod Moved
+pub mod Tables
+pub mod Lent
+pub mod Predicted
+pub mod Packed
+pub mod Advance
+pub mod Stages
+pub mod Copied
+pub mod Accepting
+pub mod Answers

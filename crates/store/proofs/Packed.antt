@@ -1,0 +1,46 @@
+-- A row by itself, and the same row in its picture: its records, and its acceptance.
+use mathlib.Core.Bool.{Bool, true}
+use mathlib.Core.List.{List}
+use mathlib.Core.Path.{_≡_, refl, ap, _∙_}
+use Prim.Native.Nat.{ℕ, zero, suc, _+_, _*_, _<_, _≤_}
+use native.Mathlib.Nat.{mod-eq-of-lt, div-eq-of-lt}
+use native.Mathlib.Omega.{arith}
+use borrow.Author.Tests.{ltb-true}
+use lib.Arith.{digits-lt, digits-div, digits-mod}
+use lib.Dec.{ltb}
+use Rattle.format.specs.Choice.{every}
+use Rattle.format.specs.Pixel.{pixel}
+use Rattle.format.specs.Picture.{Picture, pixels}
+use Rattle.format.specs.ColorTable.{perPixel, range, packedWidth, indexOf, hasEntry, accepted, digits, indexAt, packed}
+use Rattle.format.proofs.Choice.{if-same, every-at, and-both}
+use Rattle.format.proofs.ColorTable.{perPixel-pos}
+use Rattle.color_table.proofs.Rows.{packed-fewer}
+use Rattle.pixel.specs.Held.{HoldsRow}
+
+digits-same : (u n : ℕ) (g h : ℕ → ℕ) → ((k : ℕ) → g k ≡ h k) → digits u n g ≡ digits u n h
+unfolding digits
+digits-same u zero g h q = refl
+digits-same u (suc n) g h q = cc (q 0, digits-same u n (λ k. g (suc k)) (λ k. h (suc k)) (λ k. q (suc k)))
+
+pub packed-in : (w size y : ℕ) (e f g : Picture) (j : ℕ) → j < packedWidth size w → ((x : ℕ) → x < w → f x ≡ g (y * w + x)) → packed w size e f j ≡ packed w size e g (y * packedWidth size w + j)
+unfolding packed
+packed-in w size y e f g j l h =
+    let n = perPixel size in
+    let z : (x : ℕ) → 0 * w + x ≡ x = λ x. omega arith in
+    rw (mod-eq-of-lt l, div-eq-of-lt l, digits-div y l, digits-mod y l)
+    (ap (λ (d : ℕ). pixel 0 d 0 255)
+    (digits-same (range n) n (λ k. indexAt w size e f 0 (j * n + k)) (λ k. indexAt w size e g y (j * n + k))
+    (λ k. if-same (ltb (j * n + k) w) (λ t. ap (λ (x : ℕ). indexOf size e (f x)) (z (j * n + k)) ∙ ap (indexOf size e) (h (j * n + k) (ltb-true (j * n + k) w t))) (λ t. refl))))
+
+pub every-all : (n : ℕ) (t : ℕ → Bool) → ((q : ℕ) → q < n → t q ≡ true) → every n t ≡ true
+every-all zero t h = refl
+every-all (suc n) t h = and-both (t n) (every n t) (h n (omega arith)) (every-all n t (λ q l. h q (omega arith)))
+
+-- a row of an accepted picture
+pub row-accepted : (w h size y : ℕ) (e f : Picture) (xs : List ℕ) → accepted size e (h * w) f ≡ true → HoldsRow f y w xs → y < h → accepted size e w (pixels xs) ≡ true
+row-accepted w h size y e f xs a r l =
+    every-all w (λ q. hasEntry size e (pixels xs q)) (λ x u. rw (r x u) (every-at (h * w) (λ q. hasEntry size e (f q)) (y * w + x) (digits-lt l u) a))
+
+-- a row has no more records than pixels
+pub packed-few : (size w : ℕ) → 1 ≤ w → w ≤ 16384 → packedWidth size w ≤ 16384
+packed-few size w some l = let f = packed-fewer w (perPixel size) some (perPixel-pos size) in omega arith

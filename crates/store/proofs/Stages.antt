@@ -1,0 +1,151 @@
+-- A row through the records of a valid chain.
+use mathlib.Core.Bool.{Bool, true, false, _&&_}
+use mathlib.Core.List.{List}
+use mathlib.Core.Path.{_≡_, refl, sym, subst, _∙_}
+use Prim.Native.Nat.{ℕ, zero, suc, _+_, _-_, _*_, _<_, _≤_}
+use native.Mathlib.Nat.{le-refl}
+use native.Mathlib.Decide.{ℕ-discrete}
+use native.Mathlib.Omega.{arith}
+use Rattle.format.specs.declared.Step.{Step}
+use Rattle.format.specs.Picture.{Picture, pixels}
+use Rattle.format.specs.Sizes.{Sized}
+use Rattle.format.specs.Chain.{narrowed}
+use Rattle.format.specs.Stages.{forward, stored, takes, accepts}
+use Rattle.format.proofs.Choice.{and-left, and-right}
+use Rattle.format.proofs.ByKind.{takes-table, takes-other}
+use Rattle.format.proofs.Stages.{narrowed-fewer, narrowed-pos}
+use Rattle.pixel.specs.Held.{HoldsRow}
+use Rattle.store.specs.Scratch.{SameFirst}
+use Rattle.store.specs.Stage.{Takes, Advanced, Ready, Above, HintsFor, widthAfter}
+use Rattle.store.proofs.Packed.{row-accepted}
+
+-- acceptance
+
+module _ (steps : ℕ → Step) (h : ℕ) (ds : List ℕ) (f : Picture) where
+  -- by a record of those that accept
+  pub accepts-at : (count k : ℕ) → k < count → accepts steps h ds count f ≡ true → takes (steps k) h ds (stored steps ds k f) ≡ true
+  unfolding accepts
+  accepts-at zero k l e = absurd (no l)
+    where
+      no : k < 0 → ⊥
+      no l = omega arith
+  accepts-at (suc c) k l e = go (ℕ-discrete k c) (λ u. accepts-at c k u (and-left (accepts steps h ds c f) (takes (steps c) h ds (stored steps ds c f)) e))
+    where
+      go : Dec (k ≡ c) → (k < c → takes (steps k) h ds (stored steps ds k f) ≡ true) → takes (steps k) h ds (stored steps ds k f) ≡ true
+      go (yes p) ih = rw p (and-right (accepts steps h ds c f) (takes (steps c) h ds (stored steps ds c f)) e)
+      go (no d) ih = ih (omega arith)
+
+  -- records without a table accept every picture
+  pub accepts-none : (k : ℕ) → ((j : ℕ) → j < k → steps j .kind ≡ 3 → ⊥) → accepts steps h ds k f ≡ true
+  unfolding accepts
+  accepts-none zero d = refl
+  accepts-none (suc k) d = rw (accepts-none k (λ j l. d j (omega arith)), takes-other (steps k) h ds (stored steps ds k f) (d k (omega arith))) refl
+
+  -- the table alone decides
+  pub accepts-table : (t i : ℕ) → ((j : ℕ) → j < i + suc t → steps j .kind ≡ 3 → j ≡ t) → accepts steps h ds (i + suc t) f ≡ takes (steps t) h ds (stored steps ds t f)
+  unfolding accepts
+  accepts-table t zero d =
+      let z : 0 + suc t ≡ suc t = omega arith in
+      rw (z, accepts-none t (λ j l e. let q = d j (omega arith) e in omega arith)) refl
+  accepts-table t (suc i) d =
+      let z : suc i + suc t ≡ suc (i + suc t) = omega arith in
+      rw (z, accepts-table t i (λ j l e. d j (omega arith) e), takes-other (steps (i + suc t)) h ds (stored steps ds (i + suc t) f) (λ e. let q = d (i + suc t) (omega arith) e in omega arith))
+      (right (takes (steps t) h ds (stored steps ds t f)))
+    where
+      right : (b : Bool) → (b && true) ≡ b
+      right true = refl
+      right false = refl
+
+-- the records at hand
+
+module _ (steps : ℕ → Step) (count w h n : ℕ) (ready : Ready steps count w h n) where
+  pub after-pos : (k : ℕ) → k ≤ count → 1 ≤ widthAfter steps w k
+  after-pos zero l = ready .sized .wide
+  after-pos (suc k) l = narrowed-pos (steps k) (rw (ready .width k (omega arith)) (after-pos k (omega arith)))
+
+  pub after-fits : (k : ℕ) → k ≤ count → widthAfter steps w k ≤ 16384
+  after-fits zero l = ready .sized .narrow
+  after-fits (suc k) l =
+      let a = narrowed-fewer (steps k) in
+      let b = ready .width k (omega arith) in
+      let c = after-fits k (omega arith) in
+      omega arith
+
+  pub step-sized : (k : ℕ) → k < count → Sized (steps k .width) h
+  step-sized k l =
+      let e = ready .width k l in
+      let p = after-pos k (omega arith) in
+      let q = after-fits k (omega arith) in
+      record { wide = omega arith; narrow = omega arith; tall = ready .sized .tall; low = ready .sized .low }
+
+  pub ready-first : (m : ℕ) → m ≤ count → Ready steps m w h n
+  ready-first m l = record {
+    sized = ready .sized;
+    few = let f = ready .few in omega arith;
+    valid = λ k u. ready .valid k (omega arith);
+    width = λ k u. ready .width k (omega arith);
+    once = λ j k i u. ready .once j k i (omega arith);
+  }
+
+  -- what record k asks of row y
+  pub takes-row : (ds : List ℕ) (f : Picture) (hints row : List ℕ) (k y : ℕ) → HintsFor steps count ds hints → accepts steps h ds count f ≡ true → HoldsRow (stored steps ds k f) y (widthAfter steps w k) row
+      → k < count → y < h → Takes (steps k) ds row hints
+  takes-row ds f hints row k y hs a r l u = record {
+    found = hs .found k l;
+    taken = λ e.
+        row-accepted (steps k .width) h (steps k .size) y _ (stored steps ds k f) row
+        (sym (takes-table (steps k) h ds (stored steps ds k f) e) ∙ accepts-at steps h ds f count k l a) (rw (ready .width k l) r) u;
+  }
+
+  module _ (ds : List ℕ) (f : Picture) (k y : ℕ) (l : k < count) (row rows row′ rows′ : List ℕ) (held : HoldsRow (stored steps ds k f) y (widthAfter steps w k) row)
+      (above : Above steps ds f count k y rows) (adv : Advanced (steps k) ds y row rows row′ rows′) where
+    here : HoldsRow (stored steps ds k f) y (steps k .width) row
+    here = rw (ready .width k l) held
+
+    pub row-next : HoldsRow (stored steps ds (suc k) f) y (widthAfter steps w (suc k)) row′
+    unfolding stored
+    row-next = adv .made (stored steps ds k f) here (λ e u. above .wait k (le-refl k) l e u)
+
+    -- another record's row, where record k is no predictor
+    other : (j z : ℕ) → j < count → (steps k .kind ≡ 0 → ⊥) → HoldsRow (stored steps ds j f) z (steps j .width) rows → HoldsRow (stored steps ds j f) z (steps j .width) rows′
+    other j z u d r x i = adv .kept d x (let b = step-sized j u .narrow in omega arith) ∙ r x i
+
+    -- two predictors
+    twice : (j : ℕ) → j < count → (j ≡ k → ⊥) → steps j .kind ≡ 0 → steps k .kind ≡ 0 → ⊥
+    twice j u d e q = go (ℕ-discrete (j - k) 0)
+      where
+        go : Dec (j - k ≡ 0) → ⊥
+        go (yes z) = ready .once j k (omega arith) l (e ∙ sym q)
+        go (no z) = ready .once k j (omega arith) u (q ∙ sym e)
+
+    pub above-next : Above steps ds f count (suc k) y rows′
+    above-next = record { done = λ j u e. done j u e (ℕ-discrete j k) (ℕ-discrete (steps k .kind) 0); wait = λ j u v e p. wait j u v e p (ℕ-discrete (steps k .kind) 0) }
+      where
+        done : (j : ℕ) → j < suc k → steps j .kind ≡ 0 → Dec (j ≡ k) → Dec (steps k .kind ≡ 0) → HoldsRow (stored steps ds j f) y (steps j .width) rows′
+        done j u e (yes p) d = subst (λ (i : ℕ). HoldsRow (stored steps ds i f) y (steps i .width) rows′) (sym p) (adv .left (stored steps ds k f) here (subst (λ (i : ℕ). steps i .kind ≡ 0) p e))
+        done j u e (no p) (yes q) = absurd (twice j (omega arith) p e q)
+        done j u e (no p) (no q) = other j y (omega arith) q (above .done j (omega arith) e)
+
+        wait : (j : ℕ) → suc k ≤ j → j < count → steps j .kind ≡ 0 → 1 ≤ y → Dec (steps k .kind ≡ 0) → HoldsRow (stored steps ds j f) (y - 1) (steps j .width) rows′
+        wait j u v e p (yes q) = absurd (twice j v (λ z. omega arith) e q)
+        wait j u v e p (no q) = other j (y - 1) v q (above .wait j (omega arith) v e p)
+
+-- rows
+
+module _ (steps : ℕ → Step) (ds : List ℕ) (f : Picture) (count : ℕ) where
+  -- before the first row there is none above
+  pub above-first : (rows : List ℕ) → Above steps ds f count 0 0 rows
+  above-first rows = record { done = λ j l e. absurd (no l); wait = λ j u l e p. absurd (no p) }
+    where
+      no : {j : ℕ} → j < 0 → ⊥
+      no l = omega arith
+
+  -- the row that was made is above the next
+  pub above-row : (y : ℕ) (rows : List ℕ) → Above steps ds f count count y rows → Above steps ds f count 0 (y + 1) rows
+  above-row y rows a = record {
+    done = λ j l e. absurd (no l);
+    wait = λ j u l e p. let z : y + 1 - 1 ≡ y = omega arith in subst (λ (i : ℕ). HoldsRow (stored steps ds j f) i (steps j .width) rows) (sym z) (a .done j l e);
+  }
+    where
+      no : {j : ℕ} → j < 0 → ⊥
+      no l = omega arith

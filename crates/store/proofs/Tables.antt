@@ -1,0 +1,23 @@
+-- Where the table of a chain stands.
+use mathlib.Core.Path.{_≡_, subst}
+use Prim.Native.Nat.{ℕ, _+_, _<_, _≤_}
+use native.Mathlib.Decide.{ℕ-discrete}
+use native.Mathlib.Omega.{arith}
+use Rattle.format.specs.declared.Step.{Step}
+
+-- none of the first t records is a table
+pub record NoTable (steps : ℕ → Step) (t : ℕ) : Type 0 where
+  pub at : (j : ℕ) → j < t → steps j .kind ≡ 3 → ⊥
+
+pub none-yet : (steps : ℕ → Step) → NoTable steps 0
+none-yet steps = record { at = λ j l e. no l }
+  where
+    no : {j : ℕ} → j < 0 → ⊥
+    no l = omega arith
+
+pub none-more : (steps : ℕ → Step) (t : ℕ) → NoTable steps t → (steps t .kind ≡ 3 → ⊥) → NoTable steps (t + 1)
+none-more steps t h d = record { at = λ j l e. go j l e (ℕ-discrete j t) }
+  where
+    go : (j : ℕ) → j < t + 1 → steps j .kind ≡ 3 → Dec (j ≡ t) → ⊥
+    go j l e (yes q) = d (subst (λ (i : ℕ). steps i .kind ≡ 3) q e)
+    go j l e (no n) = h .at j (omega arith) e

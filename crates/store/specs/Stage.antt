@@ -1,0 +1,61 @@
+-- A row on its way through the stages of a chain. y is its number, ds the data.
+use mathlib.Core.Bool.{true}
+use mathlib.Core.List.{List}
+use mathlib.Core.Path.{_≡_}
+use Prim.Native.Nat.{ℕ, zero, suc, _-_, _*_, _<_, _≤_}
+use lib.ListN.{getD}
+use Rattle.format.specs.declared.Step.{Step}
+use Rattle.format.specs.Choice.{if_then_else_}
+use Rattle.format.specs.Picture.{Picture, pixels, written}
+use Rattle.format.specs.ColorTable.{accepted}
+use Rattle.format.specs.Sizes.{Sized}
+use Rattle.format.specs.Chain.{narrowed}
+use Rattle.format.specs.Refusals.{_unless_}
+use Rattle.format.specs.ValidStep.{ValidStep}
+use Rattle.format.specs.Stages.{partOf, forward, stored, accepts}
+use Rattle.pixel.specs.Held.{HoldsRow}
+use Rattle.color_table.specs.Pack.{Hints}
+use Rattle.chain.specs.Reading.{noStep}
+use Rattle.store.specs.Scratch.{SameFirst}
+
+-- what a table asks of a row: hints for its entries, and an entry for each pixel
+pub record Takes (s : Step) (ds row hints : List ℕ) : Type 0 where
+  pub found : s .kind ≡ 3 → Hints (s .size) (partOf s ds) hints
+  pub taken : s .kind ≡ 3 → accepted (s .size) (partOf s ds) (s .width) (pixels row) ≡ true
+
+-- a record has made row′ of row, and rows′ of rows: the predictor finds the row above in rows, and leaves the row there; other records leave rows
+pub record Advanced (s : Step) (ds : List ℕ) (y : ℕ) (row rows row′ rows′ : List ℕ) : Type 0 where
+  pub made : (f : Picture) → HoldsRow f y (s .width) row → (s .kind ≡ 0 → 1 ≤ y → HoldsRow f (y - 1) (s .width) rows) → HoldsRow (forward s ds f) y (narrowed s) row′
+  pub left : (f : Picture) → HoldsRow f y (s .width) row → s .kind ≡ 0 → HoldsRow f y (s .width) rows′
+  pub kept : (s .kind ≡ 0 → ⊥) → SameFirst rows rows′
+
+-- the records in an array
+abbrev pub stepsIn : List Step → ℕ → Step
+stepsIn steps k = getD steps k noStep
+
+-- the current width after the first k records
+abbrev pub widthAfter : (ℕ → Step) → ℕ → ℕ → ℕ
+widthAfter steps w zero = w
+widthAfter steps w (suc k) = narrowed (steps k)
+
+-- the first `count` records are those of a valid chain
+pub record Ready (steps : ℕ → Step) (count w h n : ℕ) : Type 0 where
+  pub sized : Sized w h
+  pub few : count ≤ 4
+  pub valid : (k : ℕ) → k < count → ValidStep (steps k) h n
+  pub width : (k : ℕ) → k < count → steps k .width ≡ widthAfter steps w k
+  pub once : (j k : ℕ) → j < k → k < count → steps j .kind ≡ steps k .kind → ⊥
+
+-- rows holds, for a predictor among the first k records, row y of its stage, and for one that is to come the row above
+pub record Above (steps : ℕ → Step) (ds : List ℕ) (f : Picture) (count k y : ℕ) (rows : List ℕ) : Type 0 where
+  pub done : (j : ℕ) → j < k → steps j .kind ≡ 0 → HoldsRow (stored steps ds j f) y (steps j .width) rows
+  pub wait : (j : ℕ) → k ≤ j → j < count → steps j .kind ≡ 0 → 1 ≤ y → HoldsRow (stored steps ds j f) (y - 1) (steps j .width) rows
+
+-- hints for the table among the first `count` records
+pub record HintsFor (steps : ℕ → Step) (count : ℕ) (ds hints : List ℕ) : Type 0 where
+  pub found : (k : ℕ) → k < count → steps k .kind ≡ 3 → Hints (steps k .size) (partOf (steps k) ds) hints
+
+-- what storing by the first `count` records answers, and the strip that it leaves: 21 and the strip as it was, or 0 and the picture stored
+pub record Stored (steps : ℕ → Step) (count last h : ℕ) (ds picture strip : List ℕ) (r : ℕ) (strip′ : List ℕ) : Type 0 where
+  pub answer : r ≡ (21 unless accepts steps h ds count (pixels picture))
+  pub bytes : strip′ ≡ (if accepts steps h ds count (pixels picture) then written (h * last) (stored steps ds count (pixels picture)) strip else strip)

@@ -1,0 +1,134 @@
+// A whole picture, from its buffer into the strip's.
+use crate::accept::accept_picture;
+use crate::accept::hints_at;
+use crate::accept::table_at;
+use crate::row::make_row;
+use crate::rows::copy_pixels;
+use chain::Chain;
+use chain::read_chain;
+use format::Step;
+ghost use mathlib.Core.Path.{_≡_};
+ghost use mathlib.Core.Bool.{true};
+ghost use Prim.Native.Nat.{ℕ, _*_, _<_, _≤_};
+ghost use lib.ListN.{length};
+ghost use Rattle.format.specs.Picture.{pixels, written};
+ghost use Rattle.format.specs.Sizes.{Holds};
+ghost use Rattle.format.specs.Stages.{stored, accepts};
+ghost use Rattle.format.specs.Calls.{storeAnswer, storeStrip};
+ghost use Rattle.store.specs.Scratch.{Scratch};
+ghost use Rattle.store.specs.Stage.{Ready, HintsFor, Stored, stepsIn, widthAfter};
+
+// The rows of an accepted picture; `last` is the strip's width.
+fn store_rows(
+    steps: [Step; 4],
+    count: usize,
+    width: usize,
+    last: usize,
+    height: usize,
+    data: &[u8],
+    picture: &[u8],
+    strip: &mut [u8],
+    row: &mut [u8],
+    rows: &mut [u8],
+    hints: &[u8],
+)
+    requires { ⌜ Ready (stepsIn steps) count width height (length (now «data»)) × HintsFor (stepsIn steps) count (now «data») (now hints) × Holds width height (now picture) ⌝ }
+    requires { ⌜ (accepts (stepsIn steps) height (now «data») count (pixels (now picture)) ≡ true) × (last ≡ widthAfter (stepsIn steps) width count) ⌝ }
+    requires { ⌜ Scratch (now row) (now rows) × (4 * (height * last) ≤ length (now strip)) ⌝ }
+    ensures { λ _. ⌜ now (strip .exit) ≡ written (height * last) (stored (stepsIn steps) (now («data» .entry)) count (pixels (now (picture .entry)))) (now (strip .entry)) ⌝ }
+{
+    let mut y = 0;
+    while y < height {
+        make_row(
+            steps,
+            count,
+            width,
+            height,
+            data,
+            picture,
+            y,
+            row,
+            rows,
+            hints,
+        );
+        let a = 4 * (y * last);
+        let b = a + 4 * last;
+        copy_pixels(row, &mut strip[a..b], last);
+        y += 1;
+    }
+}
+
+// Test 21, then the rows, by the records of a valid chain whose buffers have room.
+fn store_valid(
+    read: Chain,
+    width: usize,
+    height: usize,
+    data: &[u8],
+    picture: &[u8],
+    strip: &mut [u8],
+) -> u32
+    requires { ⌜ Ready (stepsIn (read .steps)) (read .count) width height (length (now «data»)) × Holds width height (now picture) ⌝ }
+    requires { ⌜ (read .width ≡ widthAfter (stepsIn (read .steps)) width (read .count)) × (4 * (height * read .width) ≤ length (now strip)) ⌝ }
+    ensures { λ r. ⌜ Stored (stepsIn (read .steps)) (read .count) (read .width) height (now («data» .entry)) (now (picture .entry)) (now (strip .entry)) r (now (strip .exit)) ⌝ }
+{
+    let steps = read.steps;
+    let count = read.count;
+    let mut row = [0u8; 65536];
+    let mut rows = [0u8; 131072];
+    let t = table_at(steps, count);
+    let hints = hints_at(steps, t, count, height, data);
+    if accept_picture(
+        steps,
+        t,
+        count,
+        width,
+        height,
+        data,
+        picture,
+        &mut row,
+        &mut rows,
+        &hints,
+    ) {
+        store_rows(
+            steps,
+            count,
+            width,
+            read.width,
+            height,
+            data,
+            picture,
+            strip,
+            &mut row,
+            &mut rows,
+            &hints,
+        );
+        0
+    } else {
+        21
+    }
+}
+
+// Tests 1 to 8 and 21, then the rows.
+pub fn store(
+    width: usize,
+    height: usize,
+    chain: &[u8],
+    data: &[u8],
+    picture: &[u8],
+    strip: &mut [u8],
+) -> u32
+    ensures { λ r. ⌜ r ≡ storeAnswer width height (now (chain .entry)) (now («data» .entry)) (now (picture .entry)) (now (strip .entry)) ⌝ }
+    ensures { λ r. ⌜ now (strip .exit) ≡ storeStrip width height (now (chain .entry)) (now («data» .entry)) (now (picture .entry)) (now (strip .entry)) ⌝ }
+{
+    let read = read_chain(width, height, chain, data.len());
+    if read.refusal != 0 {
+        return read.refusal;
+    }
+    if picture.len() < 4 * (height * width) {
+        return 8;
+    }
+    if strip.len() < 4 * (height * read.width) {
+        return 8;
+    }
+    store_valid(read, width, height, data, picture, strip)
+}

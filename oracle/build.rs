@@ -1,15 +1,12 @@
-//! Finds the Rust original beside the repository and, once it is built, Letchwater's static
-//! library. Either may be absent: what needs it is then skipped.
+//! Finds the Rust original beside the repository. It may be absent: what needs it is then skipped.
 
 use std::path::{Path, PathBuf};
 use std::{env, fs};
 
 fn main() {
     println!("cargo::rustc-check-cfg=cfg(rust_source)");
-    println!("cargo::rustc-check-cfg=cfg(letchwater_library)");
     let package = PathBuf::from(env::var_os("CARGO_MANIFEST_DIR").unwrap());
     include_rust_source(&package);
-    link_letchwater(&package);
 }
 
 fn include_rust_source(package: &Path) {
@@ -51,14 +48,6 @@ fn function<'a>(source: &'a str, name: &str) -> &'a str {
         }
     }
     panic!("the function {name} does not end");
-}
-
-fn link_letchwater(package: &Path) {
-    let library = package.join("../target/staticlib/libletchwater.a");
-    if exists(&library) {
-        println!("cargo::rustc-link-arg-tests={}", library.display());
-        println!("cargo::rustc-cfg=letchwater_library");
-    }
 }
 
 /// Also has Cargo look again when the file comes, goes or changes.

@@ -1,6 +1,7 @@
 //! The inputs of the list, a function for each transform.
 
 use crate::list::{Case, Transform};
+use crate::model::indices_in_byte;
 use crate::random::Xorshift;
 use crate::reference::picture_len;
 
@@ -166,7 +167,7 @@ fn predictor_case(random: &mut Xorshift, width: u16, height: u16, bits: u8, mode
         width,
         height,
         data,
-        input: residuals(random, picture_len(width, height)),
+        input: random.residuals(picture_len(width, height)),
     }
 }
 
@@ -219,20 +220,6 @@ fn color_map_case(random: &mut Xorshift, entries: u16) -> Case {
     }
 }
 
-/// Bytes of one of three sorts: any, small steps, which make ties and odd halves, and the ends of
-/// the ranges, which make overflows.
-fn residuals(random: &mut Xorshift, len: usize) -> Vec<u8> {
-    match random.choose(&[0, 1, 2]) {
-        0 => random.bytes(len),
-        1 => pick(random, len, &[254, 255, 0, 1, 2]),
-        _ => pick(random, len, &[0, 1, 127, 128, 254, 255]),
-    }
-}
-
-fn pick(random: &mut Xorshift, len: usize, from: &[u8]) -> Vec<u8> {
-    (0..len).map(|_| random.choose(from)).collect()
-}
-
 /// Any pixels, one for each block.
 fn blocks(random: &mut Xorshift, width: u16, height: u16, bits: u8) -> Vec<u8> {
     let side = 1 << bits;
@@ -250,13 +237,4 @@ fn indices_in_range(random: &mut Xorshift, size: u16) -> u8 {
     let n = indices_in_byte(size);
     let byte = (0..n).fold(0, |byte, _| byte << (8 / n) | random.below(size.into()));
     byte as u8
-}
-
-fn indices_in_byte(size: u16) -> u16 {
-    match size {
-        1..=2 => 8,
-        3..=4 => 4,
-        5..=16 => 2,
-        _ => 1,
-    }
 }

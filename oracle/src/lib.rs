@@ -1,6 +1,8 @@
 //! The Rust original as the oracle: the five functions that document 01 names as references,
 //! compiled unchanged from the folder `shared` beside the repository.
 
+pub mod calls;
+pub mod lent;
 pub mod random;
 
 /// What a program says where there is no oracle to ask.
@@ -20,7 +22,16 @@ mod reference;
 pub use reference::{color, color_map, color_table, predictor, subtract_green};
 
 #[cfg(rust_source)]
+pub mod model;
+
+#[cfg(rust_source)]
+pub mod given;
+
+#[cfg(rust_source)]
 mod cases;
+
+#[cfg(rust_source)]
+mod chain_cases;
 
 #[cfg(rust_source)]
 pub mod list;

@@ -14,10 +14,33 @@
 //! | 12 | 4 | length of the input: packed pixels for a color table, else as the output |
 //!
 //! The output is width × height × 4 bytes.
+//!
+//! A case of an exported call on a chain has these 16 bytes, then chain, data, input and expected
+//! output. Such cases stand last.
+//!
+//! | at | bytes | field |
+//! |---|---|---|
+//! | 0 | 1 | call: rebuild 5, store 6 |
+//! | 1 | 1 | the expected answer |
+//! | 2 | 2 | length of the chain |
+//! | 4 | 2 | width, which may be out of range |
+//! | 6 | 2 | height, likewise |
+//! | 8 | 2 | length of the data |
+//! | 10 | 2 | length of the output |
+//! | 12 | 4 | length of the input |
+//!
+//! Rebuild: input and output are the whole image buffer, before and after the call, and have one
+//! length. Store: the input is the whole picture buffer; the strip's buffer has the output's length
+//! and holds 165 in every byte before the call; the output is what it holds after it. Either buffer
+//! may be longer than needed or, where the answer is 8, too short. After a refusal the output is
+//! what the buffer held.
 
 use crate::cases::{
     color_cases, color_map_cases, color_table_cases, predictor_cases, subtract_green_cases,
 };
+use crate::chain_cases::{band_cases, order_cases, refusal_cases};
+use crate::given::Given;
+use crate::model;
 use crate::random::Xorshift;
 use crate::reference::picture_len;
 use crate::{color, color_map, color_table, predictor, subtract_green};
@@ -80,6 +103,61 @@ impl Case {
     }
 }
 
+pub(crate) enum Call {
+    Rebuild,
+    Store { strip_len: usize },
+}
+
+pub(crate) struct ChainCase {
+    pub call: Call,
+    pub given: Given,
+    pub input: Vec<u8>,
+}
+
+impl ChainCase {
+    /// The number, and the written buffer after the call.
+    pub fn answered(&self) -> (u32, Vec<u8>) {
+        let Given {
+            width,
+            height,
+            chain,
+            data,
+        } = &self.given;
+        let mut written = match self.call {
+            Call::Rebuild => self.input.clone(),
+            Call::Store { strip_len } => vec![165; strip_len],
+        };
+        let answer = match self.call {
+            Call::Rebuild => model::rebuild(*width, *height, chain, data, &mut written),
+            Call::Store { .. } => {
+                model::store(*width, *height, chain, data, &self.input, &mut written)
+            }
+        };
+        (answer, written)
+    }
+
+    fn write(&self, list: &mut Vec<u8>) {
+        let given = &self.given;
+        let (answer, output) = self.answered();
+        assert!(given.data.len().max(self.input.len()).max(output.len()) <= PART);
+        list.push(match self.call {
+            Call::Rebuild => 5,
+            Call::Store { .. } => 6,
+        });
+        list.push(answer as u8);
+        list.extend((given.chain.len() as u16).to_le_bytes());
+        list.extend((given.width as u16).to_le_bytes());
+        list.extend((given.height as u16).to_le_bytes());
+        list.extend((given.data.len() as u16).to_le_bytes());
+        list.extend((output.len() as u16).to_le_bytes());
+        list.extend((self.input.len() as u32).to_le_bytes());
+        list.extend(&given.chain);
+        list.extend(&given.data);
+        list.extend(&self.input);
+        list.extend(output);
+    }
+}
+
 /// The whole list, the same on every run.
 pub fn answers() -> Vec<u8> {
     let mut list = Vec::new();
@@ -90,6 +168,11 @@ pub fn answers() -> Vec<u8> {
         color_table_cases,
         color_map_cases,
     ] {
+        for case in cases(&mut Xorshift::new(SEED)) {
+            case.write(&mut list);
+        }
+    }
+    for cases in [order_cases, band_cases, refusal_cases] {
         for case in cases(&mut Xorshift::new(SEED)) {
             case.write(&mut list);
         }

@@ -33,4 +33,18 @@ impl Xorshift {
     pub fn choose<T: Copy>(&mut self, from: &[T]) -> T {
         from[self.below(from.len())]
     }
+
+    /// Bytes of one of three sorts: any, small steps, which make ties and odd halves, and the ends
+    /// of the ranges, which make overflows.
+    pub fn residuals(&mut self, len: usize) -> Vec<u8> {
+        match self.choose(&[0, 1, 2]) {
+            0 => self.bytes(len),
+            1 => self.pick(len, &[254, 255, 0, 1, 2]),
+            _ => self.pick(len, &[0, 1, 127, 128, 254, 255]),
+        }
+    }
+
+    fn pick(&mut self, len: usize, from: &[u8]) -> Vec<u8> {
+        (0..len).map(|_| self.choose(from)).collect()
+    }
 }

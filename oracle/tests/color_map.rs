@@ -5,21 +5,11 @@
 #[ignore = "skipped: the Rust source of ../shared is absent"]
 fn calls_are_compared_with_the_rust() {}
 
-#[cfg(not(letchwater_library))]
-#[test]
-#[ignore = "skipped: target/staticlib/libletchwater.a is absent, `rt staticlib letchwater` makes it"]
-fn exported_calls_are_linked() {}
-
-#[cfg(all(rust_source, letchwater_library))]
+#[cfg(rust_source)]
 mod compared {
+    use oracle::calls::{adjust_color_map, unadjust_color_map};
+    use oracle::lent::Lent;
     use oracle::random::Xorshift;
-
-    type Call = unsafe extern "C" fn(*mut u8, usize) -> u32;
-
-    extern "C" {
-        fn letchwater_adjust_color_map(color_map: *mut u8, len: usize) -> u32;
-        fn letchwater_unadjust_color_map(color_map: *mut u8, len: usize) -> u32;
-    }
 
     struct Called {
         answer: u32,
@@ -28,9 +18,6 @@ mod compared {
 
     const ACCEPTED: u32 = 0;
     const REFUSED: u32 = 10;
-
-    /// Enough for a whole entry written before or after the slice, or a store of 64 bytes.
-    const AROUND: usize = 64;
 
     #[test]
     fn every_length() {
@@ -102,25 +89,22 @@ mod compared {
     }
 
     fn adjusted(random: &mut Xorshift, bytes: &[u8]) -> Called {
-        called(letchwater_adjust_color_map, random, bytes)
+        called(adjust_color_map, random, bytes)
     }
 
     fn unadjusted(random: &mut Xorshift, bytes: &[u8]) -> Called {
-        called(letchwater_unadjust_color_map, random, bytes)
+        called(unadjust_color_map, random, bytes)
     }
 
     /// Lends `bytes` to `call` from the middle of a buffer, and checks that nothing around them is
     /// written.
-    fn called(call: Call, random: &mut Xorshift, bytes: &[u8]) -> Called {
-        let before = random.bytes(AROUND);
-        let after = random.bytes(AROUND);
-        let mut buffer = [&before, bytes, &after].concat();
-        let lent = &mut buffer[AROUND..][..bytes.len()];
-        // SAFETY: pointer and length are those of a slice that nobody else holds.
-        let answer = unsafe { call(lent.as_mut_ptr(), lent.len()) };
-        let bytes = lent.to_vec();
-        assert!(buffer.starts_with(&before), "written before the slice");
-        assert!(buffer.ends_with(&after), "written after the slice");
-        Called { answer, bytes }
+    fn called(call: fn(&mut [u8]) -> u32, random: &mut Xorshift, bytes: &[u8]) -> Called {
+        let mut lent = Lent::new(random, bytes);
+        let answer = call(lent.slice_mut());
+        assert!(lent.kept_around(), "written outside the slice");
+        Called {
+            answer,
+            bytes: lent.slice().to_vec(),
+        }
     }
 }

@@ -1,5 +1,6 @@
 //! The list in the repository: it is what the Rust answers today, and it can be replayed.
 
+use std::collections::BTreeSet;
 use std::fs;
 
 fn list() -> Vec<u8> {
@@ -30,19 +31,31 @@ fn list_is_what_the_rust_answers() {}
 /// Goes from header to header as a replayer does.
 #[test]
 fn list_can_be_replayed() {
-    const PART: usize = 16384;
     let list = list();
     let mut rest = list.as_slice();
-    let mut cases = [0; 5];
+    let mut cases = [0; 7];
+    let mut answers = BTreeSet::new();
     while !rest.is_empty() {
         let header = rest.split_off(..16).expect("a whole header");
-        let short = |at| usize::from(u16::from_le_bytes([header[at], header[at + 1]]));
-        let long = |at| short(at) + 65536 * short(at + 2);
-        for len in [long(8), long(12), 4 * short(4) * short(6)] {
-            assert!(len <= PART);
+        let call = header[0];
+        for len in part_lengths(header) {
+            assert!(len <= 16384);
             rest.split_off(..len).expect("a whole part");
         }
-        cases[usize::from(header[0])] += 1;
+        cases[usize::from(call)] += 1;
+        if call >= 5 {
+            answers.insert(header[1]);
+        }
     }
     assert!(cases.iter().all(|&count| count > 0), "{cases:?}");
+    assert!(answers.into_iter().eq([0, 1, 2, 3, 4, 5, 6, 7, 8, 21]));
+}
+
+fn part_lengths(header: &[u8]) -> Vec<usize> {
+    let short = |at| usize::from(u16::from_le_bytes([header[at], header[at + 1]]));
+    let long = |at| short(at) + 65536 * short(at + 2);
+    match header[0] {
+        0..5 => vec![long(8), long(12), 4 * short(4) * short(6)],
+        _ => vec![short(2), short(8), long(12), short(10)],
+    }
 }

@@ -1,4 +1,6 @@
-// Replays the oracle's list from standard input: every case through our code, byte by byte against the Rust's answer, and stored back.
+// Replays the oracle's list from standard input by the exported calls: every case byte by byte against the oracle's answer, and transforms by themselves
+// stored back.
+mod calls;
 mod case;
 mod entries;
 mod list;
@@ -11,14 +13,15 @@ use list::Next;
 use list::replay_next;
 use tally::count;
 use tally::report;
-use tally::report_stored;
+use tally::report_call;
+use tally::report_refused;
 
 // A proved loop has to end, and nothing says that an input does: the turns are counted down, from a number that no run uses up.
 fn replay_all(
-    cases: &mut [u64; 5],
-    differences: &mut [u64; 5],
-    lost: &mut [u64; 5],
-    refusals: &mut [u64; 5],
+    cases: &mut [u64; 7],
+    differences: &mut [u64; 7],
+    lost: &mut [u64; 7],
+    refusals: &mut [u64; 7],
 ) {
     let mut turns = u64::MAX;
     while turns > 0 && replay_counted(cases, differences, lost, refusals) {
@@ -28,22 +31,22 @@ fn replay_all(
 
 // Replays the next case and counts it. Says whether to go on: not after a malformed case, since the next header is then not found.
 fn replay_counted(
-    cases: &mut [u64; 5],
-    differences: &mut [u64; 5],
-    lost: &mut [u64; 5],
-    refusals: &mut [u64; 5],
+    cases: &mut [u64; 7],
+    differences: &mut [u64; 7],
+    lost: &mut [u64; 7],
+    refusals: &mut [u64; 7],
 ) -> bool {
     match replay_next() {
         Next::Compared {
-            transform,
+            kind,
             same,
             back,
             refused,
         } => {
-            count(cases, transform, true);
-            count(differences, transform, !same);
-            count(lost, transform, !back);
-            count(refusals, transform, refused);
+            count(cases, kind, true);
+            count(differences, kind, !same);
+            count(lost, kind, !back);
+            count(refusals, kind, refused);
             true
         }
         Next::Malformed => {
@@ -55,15 +58,19 @@ fn replay_counted(
 }
 
 fn main() {
-    let mut cases = [0u64; 5];
-    let mut differences = [0u64; 5];
-    let mut lost = [0u64; 5];
-    let mut refusals = [0u64; 5];
+    let mut cases = [0u64; 7];
+    let mut differences = [0u64; 7];
+    let mut lost = [0u64; 7];
+    let mut refusals = [0u64; 7];
     replay_all(&mut cases, &mut differences, &mut lost, &mut refusals);
-    report(b"predictor", cases[0], differences[0], lost[0]);
-    report(b"color", cases[1], differences[1], lost[1]);
-    report(b"subtract green", cases[2], differences[2], lost[2]);
-    report(b"color table", cases[3], differences[3], lost[3]);
-    report_stored(cases[3], refusals[3]);
-    report(b"color map", cases[4], differences[4], lost[4]);
+    report(b"predictor: ", cases[0], differences[0], lost[0]);
+    report(b"color: ", cases[1], differences[1], lost[1]);
+    report(b"subtract green: ", cases[2], differences[2], lost[2]);
+    report(b"color table: ", cases[3], differences[3], lost[3]);
+    report_refused(b"color table stored: ", cases[3], refusals[3]);
+    report(b"color map: ", cases[4], differences[4], lost[4]);
+    report_call(b"rebuild by a chain: ", cases[5], differences[5]);
+    report_refused(b"rebuild by a chain: ", cases[5], refusals[5]);
+    report_call(b"store by a chain: ", cases[6], differences[6]);
+    report_refused(b"store by a chain: ", cases[6], refusals[6]);
 }

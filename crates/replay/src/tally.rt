@@ -1,33 +1,41 @@
-// Counts of each of the five transforms, and the lines that give them.
+// Counts of each kind of case, five transforms and two calls, and the lines that give them.
 use libc::STDOUT_FILENO;
 use std::num::wrapping_add_u64;
 use std::num::wrapping_sub_u64;
 
-// One more for the transform, where `counted`. No run reaches the number at which a count wraps.
-pub fn count(counts: &mut [u64; 5], transform: usize, counted: bool) {
+fn index(kind: u8) -> usize {
+    kind as usize
+}
+
+// One more for the kind, where `counted`. No run reaches the number at which a count wraps.
+pub fn count(counts: &mut [u64; 7], kind: u8, counted: bool) {
+    let at = index(kind);
     if counted {
-        if transform < 5 {
-            counts[transform] = wrapping_add_u64(counts[transform], 1);
+        if at < 7 {
+            counts[at] = wrapping_add_u64(counts[at], 1);
         }
     }
 }
 
-pub fn report(name: &[u8], cases: u64, differences: u64, lost: u64) {
+fn put(name: &[u8], what: &[u8], n: u64) {
     io::write_all(STDOUT_FILENO, name);
-    io::write_all(STDOUT_FILENO, b": ");
-    io::print_decimal(STDOUT_FILENO, cases);
-    io::write_all(STDOUT_FILENO, b" cases, ");
-    io::print_decimal(STDOUT_FILENO, differences);
-    io::write_all(STDOUT_FILENO, b" differences, ");
-    io::print_decimal(STDOUT_FILENO, lost);
-    io::write_all(STDOUT_FILENO, b" not given back\n");
+    io::print_decimal(STDOUT_FILENO, n);
+    io::write_all(STDOUT_FILENO, what);
 }
 
-// What became of the color table's cases.
-pub fn report_stored(cases: u64, refusals: u64) {
-    io::write_all(STDOUT_FILENO, b"color table: ");
-    io::print_decimal(STDOUT_FILENO, wrapping_sub_u64(cases, refusals));
-    io::write_all(STDOUT_FILENO, b" stored, ");
-    io::print_decimal(STDOUT_FILENO, refusals);
-    io::write_all(STDOUT_FILENO, b" refused\n");
+pub fn report(name: &[u8], cases: u64, differences: u64, lost: u64) {
+    put(name, b" cases, ", cases);
+    put(b"", b" differences, ", differences);
+    put(b"", b" not given back\n", lost);
+}
+
+// A call on a chain, which is not undone.
+pub fn report_call(name: &[u8], cases: u64, differences: u64) {
+    put(name, b" cases, ", cases);
+    put(b"", b" differences\n", differences);
+}
+
+pub fn report_refused(name: &[u8], cases: u64, refusals: u64) {
+    put(name, b" accepted, ", wrapping_sub_u64(cases, refusals));
+    put(b"", b" refused\n", refusals);
 }

@@ -1,9 +1,11 @@
 -- Where the table of a chain stands.
-use mathlib.Core.Path.{_≡_, subst}
+use mathlib.Core.Bool.{Bool, true, false}
+use mathlib.Core.Path.{_≡_, ap, subst}
 use Prim.Native.Nat.{ℕ, _+_, _<_, _≤_}
 use native.Mathlib.Decide.{ℕ-discrete}
 use native.Mathlib.Omega.{arith}
 use Rattle.format.specs.declared.Step.{Step}
+use Rattle.format.specs.Choice.{if_then_else_}
 
 -- none of the first t records is a table
 pub record NoTable (steps : ℕ → Step) (t : ℕ) : Type 0 where
@@ -21,3 +23,9 @@ none-more steps t h d = record { at = λ j l e. go j l e (ℕ-discrete j t) }
     go : (j : ℕ) → j < t + 1 → steps j .kind ≡ 3 → Dec (j ≡ t) → ⊥
     go j l e (yes q) = d (subst (λ (i : ℕ). steps i .kind ≡ 3) q e)
     go j l e (no n) = h .at j (omega arith) e
+
+pub not-both : {A : Type 0} → false ≡ true → A
+not-both e = let n : _≡_ {A = ℕ} 0 1 = ap (λ (b : Bool). if b then 1 else 0) e in absurd (omega arith)
+
+pub at-zero : (steps : ℕ → Step) (t : ℕ) → steps t .kind ≡ 3 → t ≡ 0 → steps 0 .kind ≡ 3
+at-zero steps t k e = subst (λ (i : ℕ). steps i .kind ≡ 3) e k

@@ -46,6 +46,13 @@ pub record Ready (steps : ℕ → Step) (count w h n : ℕ) : Type 0 where
   pub width : (k : ℕ) → k < count → steps k .width ≡ widthAfter steps w k
   pub once : (j k : ℕ) → j < k → k < count → steps j .kind ≡ steps k .kind → ⊥
 
+-- row y is at hand after r records: none, or the first, which is then a table
+pub record Started (steps : ℕ → Step) (count w y : ℕ) (ds : List ℕ) (f : Picture) (r : ℕ) (row : List ℕ) : Type 0 where
+  pub few : r ≤ count
+  pub first : r ≤ 1
+  pub table : 1 ≤ r → steps 0 .kind ≡ 3
+  pub held : HoldsRow (stored steps ds r f) y (widthAfter steps w r) row
+
 -- rows holds, for a predictor among the first k records, row y of its stage, and for one that is to come the row above
 pub record Above (steps : ℕ → Step) (ds : List ℕ) (f : Picture) (count k y : ℕ) (rows : List ℕ) : Type 0 where
   pub done : (j : ℕ) → j < k → steps j .kind ≡ 0 → HoldsRow (stored steps ds j f) y (steps j .width) rows

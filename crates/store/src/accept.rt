@@ -4,10 +4,10 @@ use color_table::pack::accept;
 use color_table::pack::hints_of;
 use format::Step;
 ghost use mathlib.Core.Path.{_≡_};
-ghost use Prim.Native.Nat.{ℕ, _+_, _<_, _≤_};
+ghost use Prim.Native.Nat.{ℕ, _+_, _*_, _<_, _≤_};
 ghost use lib.ListN.{length};
 ghost use Rattle.format.specs.Picture.{pixels};
-ghost use Rattle.format.specs.Sizes.{Holds};
+ghost use Rattle.format.specs.Sizes.{Sized, Holds};
 ghost use Rattle.format.specs.ValidStep.{ValidStep};
 ghost use Rattle.format.specs.Stages.{partOf, stored, takes, accepts};
 ghost use Rattle.color_table.specs.Pack.{Hints};
@@ -42,6 +42,17 @@ pub fn hints_at(steps: [Step; 4], t: usize, count: usize, height: usize, data: &
         return hints_of(&data[from..to], s.size);
     }
     [0u8; 4096]
+}
+
+// Whether each pixel of the picture has an entry, where the first record is a table.
+fn accept_first(s: Step, height: usize, data: &[u8], picture: &[u8], hints: &[u8]) -> bool
+    requires { ⌜ Sized (s .width) height × ValidStep s height (length (now «data»)) × (s .kind ≡ 3) ⌝ }
+    requires { ⌜ Holds (s .width) height (now picture) × Hints (s .size) (partOf s (now «data»)) (now hints) ⌝ }
+    ensures { λ r. ⌜ r ≡ takes s height (now («data» .entry)) (pixels (now (picture .entry))) ⌝ }
+{
+    let from = s.offset;
+    let to = from + s.length;
+    accept(picture, height * s.width, &data[from..to], s.size, hints)
 }
 
 // Whether each pixel of the stage before record t, which is a table, has an entry.
@@ -93,6 +104,9 @@ pub fn accept_picture(
     ensures { λ r. ⌜ r ≡ accepts (stepsIn steps) height (now («data» .entry)) count (pixels (now (picture .entry))) ⌝ }
 {
     if t < count {
+        if t == 0 {
+            return accept_first(steps[0], height, data, picture, hints);
+        }
         return accept_rows(steps, t, width, height, data, picture, row, rows, hints);
     }
     true

@@ -6,18 +6,6 @@ ghost use Prim.Native.Nat.{ℕ, _+_, _*_, _<_, _≤_};
 ghost use lib.ListN.{length};
 ghost use Rattle.format.specs.Picture.{pixels, written};
 
-pub fn no_row() -> [u8; 65536]
-    ensures { λ r. ⌜ length r ≡ 65536 ⌝ }
-{
-    [0u8; 65536]
-}
-
-pub fn no_rows() -> [u8; 131072]
-    ensures { λ r. ⌜ length r ≡ 131072 ⌝ }
-{
-    [0u8; 131072]
-}
-
 // The first `count` pixels.
 pub fn copy_pixels(from: &[u8], to: &mut [u8], count: usize)
     requires { ⌜ (4 * count ≤ length (now from)) × (4 * count ≤ length (now to)) ⌝ }

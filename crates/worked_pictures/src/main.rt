@@ -1,20 +1,25 @@
-// The worked pictures of document 01 and of the format's text, run through the code: a line for each, its name and the bytes that came out.
+// The worked pictures of document 01 and of the format's text, run through the exported calls: a line for each call, with its number and the bytes that
+// came out.
+mod calls;
+mod chains;
 mod color_pictures;
 mod limits;
-mod map;
 mod predictor_pictures;
 mod print;
-mod small;
-mod table;
+mod table_pictures;
 
 fn main() {
     predictor_pictures::borders();
     predictor_pictures::inner();
+    predictor_pictures::twice_rounded();
     predictor_pictures::stored();
     predictor_pictures::modes();
     color_pictures::deltas();
     color_pictures::pixels();
-    map::color_map();
-    table::color_table();
+    color_pictures::color_map();
+    table_pictures::past_size();
+    table_pictures::bundles();
+    table_pictures::empty_chain();
+    table_pictures::table_then_predictor();
     limits::limits();
 }

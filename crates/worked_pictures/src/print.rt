@@ -1,4 +1,4 @@
-// Lines of output.
+// Lines of output: what a call was given, the number that it answered, and the bytes of the buffer that it wrote.
 use libc::STDOUT_FILENO;
 
 fn wide(x: u8) -> u64 {
@@ -18,9 +18,17 @@ fn numbers(bytes: &[u8]) {
     }
 }
 
-pub fn line(name: &[u8], bytes: &[u8]) {
+pub fn bytes_line(name: &[u8], bytes: &[u8]) {
     io::write_all(STDOUT_FILENO, name);
     io::write_all(STDOUT_FILENO, b":");
     numbers(bytes);
     io::write_all(STDOUT_FILENO, b"\n");
+}
+
+pub fn line(name: &[u8], call: &[u8], answer: u32, bytes: &[u8]) {
+    io::write_all(STDOUT_FILENO, name);
+    io::write_all(STDOUT_FILENO, call);
+    io::write_all(STDOUT_FILENO, b" ");
+    io::print_decimal(STDOUT_FILENO, answer as u64);
+    bytes_line(b"", bytes);
 }

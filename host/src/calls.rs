@@ -1,0 +1,43 @@
+//! The calls of the static library, as they are exported. [`crate::rebuild`] and its neighbors are
+//! their safe forms.
+//!
+//! A byte slice passes as its pointer and its length. A pointer may not be null, even where its
+//! length is 0. A buffer that is written may not overlap any other that is passed. Each call takes
+//! every number and every byte, and answers 0 or the number of a [`crate::Refusal`], in which case
+//! no byte was changed.
+
+extern "C" {
+    /// Rebuilds a picture in `image`, whose front holds the strip. Passes the picture's width and
+    /// height, the chain's records, the data that they name, and the image, which is written.
+    pub fn letchwater_rebuild(
+        width: u32,
+        height: u32,
+        chain: *const u8,
+        chain_len: usize,
+        data: *const u8,
+        data_len: usize,
+        image: *mut u8,
+        image_len: usize,
+    ) -> u32;
+
+    /// Stores `picture` in `strip`. Passes the picture's width and height, the chain's records, the
+    /// data that they name, the picture, and the strip, which is written.
+    pub fn letchwater_store(
+        width: u32,
+        height: u32,
+        chain: *const u8,
+        chain_len: usize,
+        data: *const u8,
+        data_len: usize,
+        picture: *const u8,
+        picture_len: usize,
+        strip: *mut u8,
+        strip_len: usize,
+    ) -> u32;
+
+    /// Adds to each entry the one before it, front to back. Passes the color map, which is written.
+    pub fn letchwater_adjust_color_map(color_map: *mut u8, len: usize) -> u32;
+
+    /// Undoes [`letchwater_adjust_color_map`]. Passes the color map, which is written.
+    pub fn letchwater_unadjust_color_map(color_map: *mut u8, len: usize) -> u32;
+}

@@ -1,0 +1,130 @@
+#![doc = include_str!("../README.md")]
+#![warn(missing_docs)]
+
+pub mod calls;
+mod chain;
+mod error;
+mod picture;
+mod pixel;
+mod refusal;
+
+pub use chain::Chain;
+pub use error::Error;
+pub use picture::{Picture, Size, Strip};
+pub use pixel::Pixel;
+pub use refusal::Refusal;
+
+use error::accepted;
+
+/// Rebuilds the picture of which `strip` is the strip under `chain`.
+pub fn rebuild(chain: &Chain, strip: &Strip) -> Result<Picture, Error> {
+    chain.check()?;
+    require_size(chain.strip_size(), strip.size())?;
+    let mut image = buffer(chain.size(), strip.as_bytes())?;
+    rebuild_in_place(chain, &mut image)?;
+    Picture::from_bytes(chain.size(), image)
+}
+
+/// Makes the strip of `picture` under `chain`. Rebuilding it gives the picture.
+pub fn store(chain: &Chain, picture: &Picture) -> Result<Strip, Error> {
+    chain.check()?;
+    require_size(chain.size(), picture.size())?;
+    let mut strip = buffer(chain.strip_size(), &[])?;
+    store_into(chain, picture.as_bytes(), &mut strip)?;
+    Strip::from_bytes(chain.strip_size(), strip)
+}
+
+/// Rebuilds a picture in one buffer of picture size or longer, whose front holds the strip. Bytes
+/// beyond the picture stay.
+pub fn rebuild_in_place(chain: &Chain, image: &mut [u8]) -> Result<(), Error> {
+    let Size { width, height } = chain.size();
+    let (records, data) = (chain.records(), chain.data());
+    // SAFETY: each pointer and length are those of a slice, and the slice that is written is lent to
+    // nobody else.
+    accepted(unsafe {
+        calls::letchwater_rebuild(
+            width,
+            height,
+            records.as_ptr(),
+            records.len(),
+            data.as_ptr(),
+            data.len(),
+            image.as_mut_ptr(),
+            image.len(),
+        )
+    })
+}
+
+/// Stores the picture at the front of one buffer as the strip at the front of another. Either may be
+/// longer; bytes beyond the strip stay.
+pub fn store_into(chain: &Chain, picture: &[u8], strip: &mut [u8]) -> Result<(), Error> {
+    let Size { width, height } = chain.size();
+    let (records, data) = (chain.records(), chain.data());
+    // SAFETY: each pointer and length are those of a slice, and the slice that is written is lent to
+    // nobody else.
+    accepted(unsafe {
+        calls::letchwater_store(
+            width,
+            height,
+            records.as_ptr(),
+            records.len(),
+            data.as_ptr(),
+            data.len(),
+            picture.as_ptr(),
+            picture.len(),
+            strip.as_mut_ptr(),
+            strip.len(),
+        )
+    })
+}
+
+/// The finished entries of a color map as it stands in the file, where each but the first is given
+/// as its difference from the one before.
+pub fn adjust_color_map(color_map: &[Pixel]) -> Result<Vec<Pixel>, Error> {
+    each_byte(color_map, adjust_color_map_in_place)
+}
+
+/// The color map, as it stands in the file, of finished entries.
+pub fn unadjust_color_map(entries: &[Pixel]) -> Result<Vec<Pixel>, Error> {
+    each_byte(entries, unadjust_color_map_in_place)
+}
+
+/// [`adjust_color_map`] on the bytes of a color map.
+pub fn adjust_color_map_in_place(color_map: &mut [u8]) -> Result<(), Error> {
+    // SAFETY: pointer and length are those of a slice that is lent to nobody else.
+    accepted(unsafe { calls::letchwater_adjust_color_map(color_map.as_mut_ptr(), color_map.len()) })
+}
+
+/// [`unadjust_color_map`] on the bytes of entries.
+pub fn unadjust_color_map_in_place(entries: &mut [u8]) -> Result<(), Error> {
+    // SAFETY: pointer and length are those of a slice that is lent to nobody else.
+    accepted(unsafe { calls::letchwater_unadjust_color_map(entries.as_mut_ptr(), entries.len()) })
+}
+
+fn each_byte(
+    entries: &[Pixel],
+    call: fn(&mut [u8]) -> Result<(), Error>,
+) -> Result<Vec<Pixel>, Error> {
+    let mut bytes: Vec<u8> = entries.iter().flat_map(|entry| entry.to_bytes()).collect();
+    call(&mut bytes)?;
+    Ok(pixel::pixels(&bytes).collect())
+}
+
+fn require_size(expected: Size, given: Size) -> Result<(), Error> {
+    if given == expected {
+        return Ok(());
+    }
+    Err(Error::OtherSize { expected, given })
+}
+
+/// A buffer of this size that begins with `front`. A large picture may find no memory, which must not
+/// end the program.
+fn buffer(size: Size, front: &[u8]) -> Result<Vec<u8>, Error> {
+    let none = Error::OutOfMemory(size);
+    let len = size.byte_count().ok_or(none)?;
+    let mut buffer = Vec::new();
+    buffer.try_reserve_exact(len).map_err(|_| none)?;
+    buffer.extend_from_slice(front);
+    buffer.resize(len, 0);
+    Ok(buffer)
+}

@@ -1,0 +1,201 @@
+//! Every refusal, through the calls: its number, and that no byte was changed.
+
+use letchwater::{
+    adjust_color_map, adjust_color_map_in_place, rebuild, rebuild_in_place, store, store_into,
+    unadjust_color_map, unadjust_color_map_in_place, Chain, Error, Picture, Pixel, Refusal, Size,
+    Strip,
+};
+
+const SIZE: Size = Size::new(9, 2);
+const PICTURE: usize = 4 * 9 * 2;
+const A: Pixel = Pixel::new(1, 2, 3, 4);
+const B: Pixel = Pixel::new(5, 6, 7, 8);
+
+/// Two entries: two packed pixels to a row.
+fn table() -> Chain {
+    Chain::new(SIZE).color_table(&[A, B])
+}
+
+/// A chain of one record whose data are `data` bytes.
+fn record(record: [u8; 16], data: usize) -> Chain {
+    Chain::from_parts(SIZE, record.to_vec(), vec![0; data])
+}
+
+/// Both calls, with buffers that would do for any chain.
+fn refuses(chain: &Chain, refusal: Refusal) {
+    let refused = Err(Error::Refused(refusal));
+    assert_eq!(chain.check(), refused);
+    refuses_to_rebuild(chain, PICTURE, refusal);
+    refuses_to_store(chain, PICTURE, PICTURE, refusal);
+}
+
+fn refuses_to_rebuild(chain: &Chain, image: usize, refusal: Refusal) {
+    let mut image = vec![0xA5; image];
+    let answer = rebuild_in_place(chain, &mut image);
+    assert_eq!(answer, Err(Error::Refused(refusal)));
+    assert!(image.iter().all(|&byte| byte == 0xA5));
+}
+
+fn refuses_to_store(chain: &Chain, picture: usize, strip: usize, refusal: Refusal) {
+    let picture = &A.to_bytes().repeat(18)[..picture];
+    let mut strip = vec![0xA5; strip];
+    let answer = store_into(chain, picture, &mut strip);
+    assert_eq!(answer, Err(Error::Refused(refusal)));
+    assert!(strip.iter().all(|&byte| byte == 0xA5));
+}
+
+#[test]
+fn number_1() {
+    let limit = 16384;
+    for (width, height) in [
+        (0, 2),
+        (9, 0),
+        (limit + 1, 2),
+        (9, limit + 1),
+        (u32::MAX, u32::MAX),
+    ] {
+        refuses(
+            &Chain::new(Size::new(width, height)),
+            Refusal::SizeOutOfRange,
+        );
+    }
+    assert_eq!(Chain::new(Size::new(limit, limit)).check(), Ok(()));
+}
+
+#[test]
+fn number_2() {
+    let chain = table().subtract_green().predictor(4, &[A]).color(4, &[A]);
+    assert_eq!(chain.check(), Ok(()));
+    refuses(&chain.subtract_green(), Refusal::ChainLength);
+    for len in [1, 15, 17] {
+        let chain = Chain::from_parts(SIZE, vec![0; len], vec![0; 64]);
+        refuses(&chain, Refusal::ChainLength);
+    }
+}
+
+#[test]
+fn number_3() {
+    for kind in [4, 255] {
+        let kind_only = [kind, 0, 0, 0, 0, 0, 0, 0, 0, 0, 0, 0, 0, 0, 0, 0];
+        refuses(&record(kind_only, 64), Refusal::UnknownKind);
+    }
+}
+
+#[test]
+fn number_4() {
+    refuses(&table().color_table(&[A]), Refusal::KindAgain);
+    let chain = Chain::new(SIZE).subtract_green().predictor(4, &[A]);
+    refuses(&chain.subtract_green(), Refusal::KindAgain);
+}
+
+#[test]
+fn number_5() {
+    for bits in [0, 1, 10, 255] {
+        refuses(&Chain::new(SIZE).predictor(bits, &[A]), Refusal::NotTabled);
+        refuses(&Chain::new(SIZE).color(bits, &[A]), Refusal::NotTabled);
+    }
+    refuses(&Chain::new(SIZE).color_table(&[]), Refusal::NotTabled);
+    refuses(&Chain::new(SIZE).color_table(&[A; 257]), Refusal::NotTabled);
+    let green_with_offset = [2, 0, 0, 0, 1, 0, 0, 0, 0, 0, 0, 0, 0, 0, 0, 0];
+    refuses(&record(green_with_offset, 64), Refusal::NotTabled);
+    let last_byte = [2, 0, 0, 0, 0, 0, 0, 0, 0, 0, 0, 0, 0, 0, 0, 1];
+    refuses(&record(last_byte, 64), Refusal::NotTabled);
+}
+
+#[test]
+fn number_6() {
+    refuses(&Chain::new(SIZE).predictor(3, &[A]), Refusal::WrongLength);
+    refuses(&Chain::new(SIZE).color(3, &[A; 3]), Refusal::WrongLength);
+    // The packed width counts, which needs one block only.
+    refuses(&table().predictor(3, &[A; 2]), Refusal::WrongLength);
+    let table_of_2 = [3, 0, 2, 0, 0, 0, 0, 0, 12, 0, 0, 0, 0, 0, 0, 0];
+    refuses(&record(table_of_2, 64), Refusal::WrongLength);
+}
+
+#[test]
+fn number_7() {
+    let at_60 = [3, 0, 2, 0, 60, 0, 0, 0, 8, 0, 0, 0, 0, 0, 0, 0];
+    refuses(&record(at_60, 64), Refusal::BeyondData);
+    refuses(&record(at_60, 67), Refusal::BeyondData);
+    assert_eq!(record(at_60, 68).check(), Ok(()));
+    let offset_past_32_bits = [3, 0, 2, 0, 255, 255, 255, 255, 8, 0, 0, 0, 0, 0, 0, 0];
+    refuses(&record(offset_past_32_bits, 64), Refusal::BeyondData);
+}
+
+#[test]
+fn number_8() {
+    let strip = 4 * 2 * 2;
+    refuses_to_rebuild(&table(), PICTURE - 1, Refusal::BufferTooShort);
+    refuses_to_rebuild(&table(), strip, Refusal::BufferTooShort);
+    refuses_to_store(&table(), PICTURE - 1, strip, Refusal::BufferTooShort);
+    refuses_to_store(&table(), PICTURE, strip - 1, Refusal::BufferTooShort);
+    let picture = A.to_bytes().repeat(18);
+    assert_eq!(store_into(&table(), &picture, &mut vec![0; strip]), Ok(()));
+}
+
+#[test]
+fn number_10() {
+    let refused = Err(Error::Refused(Refusal::ColorMapLength));
+    for len in [0, 1, 3, 5, 1023, 1025, 1028, 65_540] {
+        let mut color_map = vec![0xA5; len];
+        assert_eq!(adjust_color_map_in_place(&mut color_map), refused);
+        assert_eq!(unadjust_color_map_in_place(&mut color_map), refused);
+        assert!(color_map.iter().all(|&byte| byte == 0xA5));
+    }
+    for entries in [0, 257] {
+        let color_map = vec![A; entries];
+        assert_eq!(adjust_color_map(&color_map).map(|_| ()), refused);
+        assert_eq!(unadjust_color_map(&color_map).map(|_| ()), refused);
+    }
+}
+
+#[test]
+fn number_21() {
+    let mut pixels = [A; 18];
+    for i in 0..18 {
+        pixels[i] = Pixel::new(1, 2, 3, 5);
+        let picture = Picture::from_pixels(SIZE, pixels).unwrap();
+        let refused = Err(Error::Refused(Refusal::NoEntry));
+        assert_eq!(store(&table(), &picture).map(|_| ()), refused);
+        let mut strip = vec![0xA5; PICTURE];
+        let answer = store_into(&table(), picture.as_bytes(), &mut strip);
+        assert_eq!(answer, refused);
+        assert!(strip.iter().all(|&byte| byte == 0xA5));
+        pixels[i] = B;
+    }
+    assert!(store(&table(), &Picture::from_pixels(SIZE, pixels).unwrap()).is_ok());
+}
+
+/// The chain is refused before the size is compared, and memory is taken for no refused size.
+#[test]
+fn owned_calls_ask_the_library_first() {
+    let refused = Error::Refused(Refusal::SizeOutOfRange);
+    let chain = Chain::new(Size::new(u32::MAX, u32::MAX));
+    let picture = Picture::from_pixels(SIZE, [A; 18]).unwrap();
+    let strip = Strip::from_bytes(SIZE, vec![0; PICTURE]).unwrap();
+    assert_eq!(store(&chain, &picture), Err(refused));
+    assert_eq!(rebuild(&chain, &strip), Err(refused));
+}
+
+/// A picture or strip of the chain's number of bytes but of another shape.
+#[test]
+fn other_sizes() {
+    let given = Size::new(2, 9);
+    let chain = Chain::new(SIZE).subtract_green();
+    let error = Error::OtherSize {
+        expected: SIZE,
+        given,
+    };
+    let picture = Picture::from_pixels(given, [A; 18]).unwrap();
+    assert_eq!(store(&chain, &picture), Err(error));
+    let strip = Strip::from_bytes(given, vec![0; PICTURE]).unwrap();
+    assert_eq!(rebuild(&chain, &strip), Err(error));
+
+    let of_picture_size = Strip::from_bytes(SIZE, vec![0; PICTURE]).unwrap();
+    let expected = Size::new(2, 2);
+    let error = Error::OtherSize {
+        expected,
+        given: SIZE,
+    };
+    assert_eq!(rebuild(&table(), &of_picture_size), Err(error));
+}

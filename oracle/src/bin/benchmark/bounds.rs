@@ -1,0 +1,65 @@
+//! The bounds that were asked for, and which of them hold.
+
+use crate::lines::Measured;
+use crate::pictures::Content;
+
+/// Says of each bound whether it holds, and where it does not.
+pub fn judge(measured: &[Measured]) {
+    let singles = measured.iter().filter(|line| line.single);
+    let chains = || measured.iter().filter(|line| line.chain);
+    let rebuilding = |line: &Measured| line.times.here / line.times.rust;
+    judge_all(
+        "each transform by itself takes at most 1.0 of the Rust's time",
+        1.0,
+        &ratios(singles, rebuilding),
+    );
+    judge_all(
+        "rebuilding each whole chain takes at most 0.9 of the Rust's time",
+        0.9,
+        &ratios(chains(), rebuilding),
+    );
+    judge_all(
+        "storing each whole chain takes at most 3 times its rebuilding",
+        3.0,
+        &ratios(chains(), |line| line.times.storing / line.times.here),
+    );
+    let storing = |colors| {
+        let table =
+            |line: &&Measured| line.table == Some(colors) && line.content == Content::ClassMap;
+        measured.iter().find(table).unwrap().times.storing
+    };
+    judge_all(
+        "storing a class map through a table of 256 takes at most twice the time of one of 2",
+        2.0,
+        &[(
+            "tables of 256 and 2, class map".into(),
+            storing(256) / storing(2),
+        )],
+    );
+}
+
+fn ratios<'a>(
+    lines: impl Iterator<Item = &'a Measured>,
+    ratio: impl Fn(&Measured) -> f64,
+) -> Vec<(String, f64)> {
+    lines
+        .map(|line| {
+            let name = format!("{}, {}", line.name, line.content.name());
+            (name, ratio(line))
+        })
+        .collect()
+}
+
+fn judge_all(bound: &str, most: f64, ratios: &[(String, f64)]) {
+    let missed: Vec<_> = ratios.iter().filter(|(_, ratio)| *ratio > most).collect();
+    let all = ratios.len();
+    if missed.is_empty() {
+        let (name, ratio) = ratios.iter().max_by(|a, b| a.1.total_cmp(&b.1)).unwrap();
+        println!("holds: {bound} ({all} of {all}; the most is {ratio:.2}, {name})");
+        return;
+    }
+    println!("missed: {bound} ({} of {all} miss it)", missed.len());
+    for (name, ratio) in missed {
+        println!("    {ratio:.2}: {name}");
+    }
+}

@@ -1,0 +1,108 @@
+//! The two pictures: random bytes, and a class map as a belt camera sends it.
+
+use oracle::random::Xorshift;
+
+/// One number of colors in each band of tables.
+pub const COLORS: [u16; 4] = [2, 4, 16, 256];
+
+/// Regions of about 70 by 70 pixels at full size.
+const SEEDS: usize = 400;
+
+/// How far a border strays, in pixels.
+const JAGGED: usize = 2;
+
+#[derive(Clone, Copy, PartialEq, Eq)]
+pub enum Content {
+    Random,
+    ClassMap,
+}
+
+impl Content {
+    pub fn name(self) -> &'static str {
+        match self {
+            Self::Random => "random",
+            Self::ClassMap => "class map",
+        }
+    }
+}
+
+pub struct Pictures {
+    pub width: u16,
+    pub height: u16,
+    /// The region of each pixel.
+    regions: Vec<usize>,
+}
+
+impl Pictures {
+    /// Each pixel belongs to the region of the seed that is nearest to it, out of seeds thrown at
+    /// random. Rows and columns are shifted by a few pixels before that, each by its own, so that
+    /// borders are jagged as those that a camera sees, without loose pixels beside them.
+    pub fn new(width: u16, height: u16) -> Self {
+        let mut random = Xorshift::new(0x4528_21E6_38D0_1377);
+        let (columns, rows) = (usize::from(width), usize::from(height));
+        let seeds: Vec<(i32, i32)> = (0..SEEDS)
+            .map(|_| (random.below(columns) as i32, random.below(rows) as i32))
+            .collect();
+        let shifts = |random: &mut Xorshift, n: usize| -> Vec<i32> {
+            let shift = |_| random.below(2 * JAGGED + 1) as i32 - JAGGED as i32;
+            (0..n).map(shift).collect()
+        };
+        let row_shifts = shifts(&mut random, rows);
+        let column_shifts = shifts(&mut random, columns);
+        let mut regions = Vec::with_capacity(columns * rows);
+        for (row, row_shift) in (0..).zip(row_shifts) {
+            for (column, column_shift) in (0..).zip(&column_shifts) {
+                regions.push(nearest(&seeds, column + row_shift, row + column_shift));
+            }
+        }
+        Self {
+            width,
+            height,
+            regions,
+        }
+    }
+
+    /// The index of each pixel's color.
+    pub fn indices(&self, content: Content, colors: u16) -> Vec<usize> {
+        let mut random = Xorshift::new(0xBE54_66CF_34E9_0C6C);
+        let mut any =
+            |n: usize| -> Vec<usize> { (0..n).map(|_| random.below(colors.into())).collect() };
+        match content {
+            Content::Random => any(self.regions.len()),
+            Content::ClassMap => {
+                let materials = any(SEEDS);
+                let material = |&region: &usize| materials[region];
+                self.regions.iter().map(material).collect()
+            }
+        }
+    }
+
+    /// Of how many pixels of one color a row's runs are.
+    pub fn mean_run(&self, colors: u16) -> f64 {
+        let indices = self.indices(Content::ClassMap, colors);
+        let runs: usize = indices
+            .chunks(self.width.into())
+            .map(|row| row.chunk_by(|a, b| a == b).count())
+            .sum();
+        indices.len() as f64 / runs as f64
+    }
+}
+
+/// Opaque colors, no two alike.
+pub fn palette(colors: u16) -> Vec<[u8; 4]> {
+    let mut random = Xorshift::new(0xC0AC_29B7_C97C_50DD);
+    let mut palette = Vec::new();
+    while palette.len() < usize::from(colors) {
+        let color = [random.byte(), random.byte(), random.byte(), 255];
+        if !palette.contains(&color) {
+            palette.push(color);
+        }
+    }
+    palette
+}
+
+fn nearest(seeds: &[(i32, i32)], x: i32, y: i32) -> usize {
+    let distance = |&(a, b): &(i32, i32)| (a - x) * (a - x) + (b - y) * (b - y);
+    let seeds = seeds.iter().map(distance).enumerate();
+    seeds.min_by_key(|&(_, distance)| distance).unwrap().0
+}

@@ -1,0 +1,55 @@
+//! Letchwater's exported calls on any slices and numbers, as it declares them. Its safe forms would
+//! refuse some of these before the library sees them.
+
+use letchwater::calls;
+
+pub fn adjust_color_map(color_map: &mut [u8]) -> u32 {
+    // SAFETY: pointer and length are those of a slice that nobody else holds.
+    unsafe { calls::letchwater_adjust_color_map(color_map.as_mut_ptr(), color_map.len()) }
+}
+
+pub fn unadjust_color_map(color_map: &mut [u8]) -> u32 {
+    // SAFETY: as above.
+    unsafe { calls::letchwater_unadjust_color_map(color_map.as_mut_ptr(), color_map.len()) }
+}
+
+pub fn rebuild(width: u32, height: u32, chain: &[u8], data: &[u8], image: &mut [u8]) -> u32 {
+    // SAFETY: each pointer goes with its slice's length, and nobody else holds `image`.
+    unsafe {
+        calls::letchwater_rebuild(
+            width,
+            height,
+            chain.as_ptr(),
+            chain.len(),
+            data.as_ptr(),
+            data.len(),
+            image.as_mut_ptr(),
+            image.len(),
+        )
+    }
+}
+
+pub fn store(
+    width: u32,
+    height: u32,
+    chain: &[u8],
+    data: &[u8],
+    picture: &[u8],
+    strip: &mut [u8],
+) -> u32 {
+    // SAFETY: each pointer goes with its slice's length, and nobody else holds `strip`.
+    unsafe {
+        calls::letchwater_store(
+            width,
+            height,
+            chain.as_ptr(),
+            chain.len(),
+            data.as_ptr(),
+            data.len(),
+            picture.as_ptr(),
+            picture.len(),
+            strip.as_mut_ptr(),
+            strip.len(),
+        )
+    }
+}

@@ -1,18 +1,18 @@
 -- Rows of a picture, copied to scratch and from there to the strip.
 use mathlib.Core.Bool.{Bool, true, false}
-use mathlib.Core.List.{List}
+use mathlib.Core.List.{List, [], _∷_}
 use mathlib.Core.Path.{_≡_, refl, sym, ap, subst, _∙_}
 use Prim.Native.Nat.{ℕ, zero, suc, _+_, _-_, _*_, _<_, _≤_}
 use native.Mathlib.Nat.{add-mul, one-mul}
 use native.Mathlib.Decide.{decLt}
 use native.Mathlib.Omega.{arith}
-use lib.ListN.{length, take, drop}
+use lib.ListN.{length, take, drop, length-drop}
 use Rattle.format.specs.declared.Step.{Step}
 use Rattle.format.specs.Picture.{Picture, pixels, written}
 use Rattle.format.specs.ColorTable.{hasEntry, accepted}
 use Rattle.format.specs.Stages.{stored}
 use Rattle.format.proofs.Choice.{every-at}
-use Rattle.format.proofs.Written.{pixels-written}
+use Rattle.format.proofs.Written.{pixels-written, written-self}
 use Rattle.pixel.specs.Cells.{pixelCells, run, given}
 use Rattle.pixel.specs.Held.{HoldsRow}
 use Rattle.pixel.proofs.Part.{back, part}
@@ -37,6 +37,29 @@ first-row steps ds w y bs xs ys e l x u = ap (λ (zs : List ℕ). pixels zs x) e
 pub row-stored : (g : Picture) (y w : ℕ) (row strip z : List ℕ) → z ≡ written w (pixels row) (part (y * w) w strip) → HoldsRow g y w row → 4 * (y * w) + 4 * w ≤ length strip
     → 4 * w ≤ length (part (y * w) w strip) → back (4 * (y * w)) (4 * (y * w) + 4 * w - 4 * (y * w)) strip z ≡ run pixelCells (given g) (y * w) w strip
 row-stored g y w row strip z e h l m = held-back g y w row strip z (e ∙ sym (given-written (pixels row) w (part (y * w) w strip) m)) h l
+
+-- two buffers that hold the n pixels alone
+whole-written : (n : ℕ) (f : Picture) (xs ys : List ℕ) → length xs ≡ 4 * n → length ys ≡ 4 * n → written n f xs ≡ written n f ys
+unfolding written
+whole-written zero f [] [] p q = refl
+whole-written zero f [] (y ∷ ys) p q = absurd (nothing q)
+  where
+    nothing : suc (length ys) ≡ 4 * 0 → ⊥
+    nothing e = omega arith
+whole-written zero f (x ∷ xs) ys p q = absurd (nothing p)
+  where
+    nothing : suc (length xs) ≡ 4 * 0 → ⊥
+    nothing e = omega arith
+whole-written (suc n) f xs ys p q =
+    cc (whole-written n (λ i. f (suc i)) (drop 4 xs) (drop 4 ys) (length-drop 4 xs ∙ omega arith) (length-drop 4 ys ∙ omega arith))
+
+-- a row made in its part of the strip
+pub row-in-strip : (g : Picture) (y w : ℕ) (strip z : List ℕ) → HoldsRow g y w z → length z ≡ length (part (y * w) w strip) → 4 * (y * w) + 4 * w ≤ length strip
+    → back (4 * (y * w)) (4 * (y * w) + 4 * w - 4 * (y * w)) strip z ≡ run pixelCells (given g) (y * w) w strip
+row-in-strip g y w strip z h e l =
+    let p = lent-length (4 * (y * w)) (4 * (y * w) + 4 * w) strip (omega arith) l in
+    let m : length (part (y * w) w strip) ≡ 4 * w = omega arith in
+    row-stored g y w z strip z (sym (written-self w z (omega arith)) ∙ whole-written w (pixels z) z (part (y * w) w strip) (e ∙ m) m) h l (omega arith)
 
 pub strip-length : (y w : ℕ) (strip z : List ℕ) → length z ≡ length (part (y * w) w strip) → 4 * (y * w) + 4 * w ≤ length strip
     → length (back (4 * (y * w)) (4 * (y * w) + 4 * w - 4 * (y * w)) strip z) ≡ length strip

@@ -66,3 +66,15 @@ above-started steps ds f count w y r row rows s a = record { done = λ j l e. ab
 pub none-stored : (steps : ℕ → Step) (h : ℕ) (ds : List ℕ) (f : Picture) (t : ℕ) → t ≡ 0 → takes (steps 0) h ds f ≡ takes (steps t) h ds (stored steps ds t f)
 unfolding stored
 none-stored steps h ds f t e = rw e refl
+
+-- a table alone
+module _ (steps : ℕ → Step) (count w : ℕ) (ds : List ℕ) (f : Picture) (alone : count ≡ 1) where
+  pub alone-stored : stored steps ds count f ≡ forward (steps 0) ds f
+  unfolding stored
+  alone-stored = rw alone refl
+
+  pub alone-width : (last : ℕ) → last ≡ widthAfter steps w count → last ≡ narrowed (steps 0)
+  alone-width last e = e ∙ ap (widthAfter steps w) alone
+
+pub alone-as : (n : ℕ) (g h : Picture) (xs ys : List ℕ) → ys ≡ written n h xs → g ≡ h → ys ≡ written n g xs
+alone-as n g h xs ys e q = e ∙ ap (λ (k : Picture). written n k xs) (sym q)

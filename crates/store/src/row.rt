@@ -6,7 +6,7 @@ use color_table::unpack::Expanded;
 use format::Step;
 ghost use mathlib.Core.Path.{_≡_};
 ghost use mathlib.Core.Bool.{true};
-ghost use Prim.Native.Nat.{_<_};
+ghost use Prim.Native.Nat.{_*_, _<_, _≤_};
 ghost use lib.ListN.{length};
 ghost use Rattle.format.specs.Picture.{pixels};
 ghost use Rattle.format.specs.Sizes.{Sized, Holds};
@@ -30,7 +30,7 @@ fn table_first(steps: [Step; 4], count: usize) -> bool
 }
 
 // Row y of the picture packed in `row`, where the first record is a table.
-fn pack_first(
+pub fn pack_first(
     s: Step,
     height: usize,
     data: &[u8],
@@ -40,7 +40,7 @@ fn pack_first(
     hints: &[u8],
 )
     requires { ⌜ Sized (s .width) height × ValidStep s height (length (now «data»)) × (s .kind ≡ 3) × (y < height) ⌝ }
-    requires { ⌜ Holds (s .width) height (now picture) × (length (now row) ≡ 65536) ⌝ }
+    requires { ⌜ Holds (s .width) height (now picture) × (4 * narrowed s ≤ length (now row)) ⌝ }
     requires { ⌜ Hints (s .size) (partOf s (now «data»)) (now hints) × (takes s height (now «data») (pixels (now picture)) ≡ true) ⌝ }
     ensures { λ _. ⌜ HoldsRow (forward s (now («data» .entry)) (pixels (now (picture .entry)))) y (narrowed s) (now (row .exit)) ⌝ }
 {

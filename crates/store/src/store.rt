@@ -3,6 +3,7 @@ use crate::accept::accept_picture;
 use crate::accept::hints_at;
 use crate::accept::table_at;
 use crate::row::make_row;
+use crate::row::pack_first;
 use crate::rows::copy_pixels;
 use chain::Chain;
 use chain::read_chain;
@@ -12,8 +13,11 @@ ghost use mathlib.Core.Bool.{true};
 ghost use Prim.Native.Nat.{ℕ, _*_, _<_, _≤_};
 ghost use lib.ListN.{length};
 ghost use Rattle.format.specs.Picture.{pixels, written};
-ghost use Rattle.format.specs.Sizes.{Holds};
-ghost use Rattle.format.specs.Stages.{stored, accepts};
+ghost use Rattle.format.specs.Sizes.{Sized, Holds};
+ghost use Rattle.format.specs.Chain.{narrowed};
+ghost use Rattle.format.specs.ValidStep.{ValidStep};
+ghost use Rattle.format.specs.Stages.{partOf, forward, stored, takes, accepts};
+ghost use Rattle.color_table.specs.Pack.{Hints};
 ghost use Rattle.format.specs.Calls.{storeAnswer, storeStrip};
 ghost use Rattle.store.specs.Scratch.{Scratch};
 ghost use Rattle.store.specs.Stage.{Ready, HintsFor, Stored, stepsIn, widthAfter};
@@ -58,6 +62,79 @@ fn store_rows(
     }
 }
 
+// Whether a table is the only record.
+fn table_alone(steps: [Step; 4], count: usize) -> bool
+    ensures { λ r. ⌜ (r ≡ true → (count ≡ 1) × (stepsIn steps 0 .kind ≡ 3)) ⌝ }
+{
+    if count != 1 {
+        return false;
+    }
+    let s = steps[0];
+    s.kind == 3
+}
+
+// The rows of an accepted picture packed where they stand in the strip, by the table s alone; `last` is the strip's width.
+fn pack_rows(
+    s: Step,
+    last: usize,
+    height: usize,
+    data: &[u8],
+    picture: &[u8],
+    strip: &mut [u8],
+    hints: &[u8],
+)
+    requires { ⌜ Sized (s .width) height × ValidStep s height (length (now «data»)) × (s .kind ≡ 3) × (last ≡ narrowed s) ⌝ }
+    requires { ⌜ Holds (s .width) height (now picture) × (4 * (height * last) ≤ length (now strip)) ⌝ }
+    requires { ⌜ Hints (s .size) (partOf s (now «data»)) (now hints) × (takes s height (now «data») (pixels (now picture)) ≡ true) ⌝ }
+    ensures { λ _. ⌜ now (strip .exit) ≡ written (height * last) (forward s (now («data» .entry)) (pixels (now (picture .entry)))) (now (strip .entry)) ⌝ }
+{
+    let mut y = 0;
+    while y < height {
+        let a = 4 * (y * last);
+        let b = a + 4 * last;
+        pack_first(s, height, data, picture, y, &mut strip[a..b], hints);
+        y += 1;
+    }
+}
+
+// The rows of an accepted picture, by whatever records.
+fn store_accepted(
+    steps: [Step; 4],
+    count: usize,
+    width: usize,
+    last: usize,
+    height: usize,
+    data: &[u8],
+    picture: &[u8],
+    strip: &mut [u8],
+    row: &mut [u8],
+    rows: &mut [u8],
+    hints: &[u8],
+)
+    requires { ⌜ Ready (stepsIn steps) count width height (length (now «data»)) × HintsFor (stepsIn steps) count (now «data») (now hints) × Holds width height (now picture) ⌝ }
+    requires { ⌜ (accepts (stepsIn steps) height (now «data») count (pixels (now picture)) ≡ true) × (last ≡ widthAfter (stepsIn steps) width count) ⌝ }
+    requires { ⌜ Scratch (now row) (now rows) × (4 * (height * last) ≤ length (now strip)) ⌝ }
+    ensures { λ _. ⌜ now (strip .exit) ≡ written (height * last) (stored (stepsIn steps) (now («data» .entry)) count (pixels (now (picture .entry)))) (now (strip .entry)) ⌝ }
+{
+    if table_alone(steps, count) {
+        pack_rows(steps[0], last, height, data, picture, strip, hints);
+        return;
+    }
+    store_rows(
+        steps,
+        count,
+        width,
+        last,
+        height,
+        data,
+        picture,
+        strip,
+        row,
+        rows,
+        hints,
+    );
+}
+
 // Test 21, then the rows, by the records of a valid chain whose buffers have room.
 fn store_valid(
     read: Chain,
@@ -89,7 +166,7 @@ fn store_valid(
         &mut rows,
         &hints,
     ) {
-        store_rows(
+        store_accepted(
             steps,
             count,
             width,

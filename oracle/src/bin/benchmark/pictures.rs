@@ -5,8 +5,8 @@ use oracle::random::Xorshift;
 /// One number of colors in each band of tables.
 pub const COLORS: [u16; 4] = [2, 4, 16, 256];
 
-/// Regions of about 70 by 70 pixels at full size.
-const SEEDS: usize = 400;
+/// Regions at full size: pieces of about 130 by 130 pixels.
+const SEEDS: usize = 120;
 
 /// How far a border strays, in pixels.
 const JAGGED: usize = 2;
@@ -35,8 +35,8 @@ pub struct Pictures {
 
 impl Pictures {
     /// Each pixel belongs to the region of the seed that is nearest to it, out of seeds thrown at
-    /// random. Rows and columns are shifted by a few pixels before that, each by its own, so that
-    /// borders are jagged as those that a camera sees, without loose pixels beside them.
+    /// random. Rows and columns are shifted by up to a few pixels before that, each by at most one
+    /// more or less than the one before, so that borders stray as those that a camera sees.
     pub fn new(width: u16, height: u16) -> Self {
         let mut random = Xorshift::new(0x4528_21E6_38D0_1377);
         let (columns, rows) = (usize::from(width), usize::from(height));
@@ -44,8 +44,13 @@ impl Pictures {
             .map(|_| (random.below(columns) as i32, random.below(rows) as i32))
             .collect();
         let shifts = |random: &mut Xorshift, n: usize| -> Vec<i32> {
-            let shift = |_| random.below(2 * JAGGED + 1) as i32 - JAGGED as i32;
-            (0..n).map(shift).collect()
+            let most = JAGGED as i32;
+            let mut shift = 0;
+            let mut next = |_| {
+                shift = (shift + random.below(3) as i32 - 1).clamp(-most, most);
+                shift
+            };
+            (0..n).map(&mut next).collect()
         };
         let row_shifts = shifts(&mut random, rows);
         let column_shifts = shifts(&mut random, columns);

@@ -57,7 +57,7 @@ accept-rows-spec =
     let s = stepsIn (c .before .before .before .before .before .before .before .before .before .before .before .before .before .before .before .before .before .before .before .before .args .t1) (c .before .before .before .before .before .before .before .before .before .before .before .before .before .before .before .before .before .before .before .before .args .t) in
     let k : s .offset + s .length - s .offset ≡ s .length = omega arith in
     table-takes _ _ _ _ _ (p .0 .0) _ _ _ (p .1 .0) (accepted-not _ (s .width) _ (c .before .before .before .before .before .before .before .before .before .before .before .before .loop .y) _ _ _ (table-held _ _ _ _ _ (p .0 .0) (stored (stepsIn (c .before .before .before .before .before .before .before .before .before .before .before .before .before .before .before .before .before .before .before .before .args .t1)) (c .before .before .before .before .before .before .before .before .before .before .before .before .before .before .before .before .before .before .before .before .args .«data» .now) (c .before .before .before .before .before .before .before .before .before .before .before .before .before .before .before .before .before .before .before .before .args .t) (pixels (c .before .before .before .before .before .before .before .before .before .before .before .before .before .before .before .before .before .before .before .before .args .picture .now))) (c .before .before .before .before .before .before .before .before .before .before .before .before .loop .y) _ (c .before .before .before .before .before .before .before .before .make-row .ensures .0)) (rw k at (not-taken _ _ (c .before .accept .ensures) (c .if1 .taken))) (omega arith)))
-    (λ c. omega arith)
+    (λ c. omega (arith, c .before .before .before .before .before .before .before .before .before .before .before .before .before .before .before .before .before .before .before .before .pre .0 .0 .sized .low))
     (λ c. omega arith)
     (λ c.
     let p = c .before .before .before .before .before .before .before .before .before .before .before .before .before .before .before .before .before .before .before .before .pre in

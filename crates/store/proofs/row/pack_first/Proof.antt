@@ -4,10 +4,10 @@ use Prim.Native.Nat.{_+_, _-_}
 use native.Mathlib.Omega.{arith}
 use borrow.Author.Needs.{needs}
 use Rattle.chain.proofs.Parts.{part-entries}
+use Rattle.format.proofs.ByKind.{narrowed-table}
 use Rattle.pixel.proofs.Blocks.{row-there}
 use Rattle.store.proofs.Copied.{part-room}
 use Rattle.store.proofs.First.{first-accepted, first-packed}
-use Rattle.store.proofs.Packed.{packed-few}
 use Rattle.store.proofs.row.pack_first.Statement.{statement}
 use Rattle.store.proofs.row.pack_first.Tie as tie
 
@@ -31,7 +31,7 @@ pack-first-spec =
     let s = c .before .before .before .before .before .before .before .before .before .before .args .s in
     let t = p .0 .1 .table (p .0 .2) in
     let k : s .offset + s .length - s .offset ≡ s .length = omega arith in
-    let f = packed-few (s .size) (s .width) (p .0 .0 .wide) (p .0 .0 .narrow) in (
+    let f = narrowed-table s (p .0 .2) in (
       (t .some, t .most, part-entries _ _ _ (p .0 .1) (p .0 .2), p .0 .0 .wide, p .0 .0 .narrow, part-room (c .before .before .before .before .before .before .before .before .before .before .args .y) (s .width) (c .before .before .before .before .before .before .before .before .before .before .args .picture .now) (let a = c .before .before .before .before .before .before .before .before .before .before .args in omega (arith, row-there (a .s .width) (a .height) (a .y) (c .before .before .before .before .before .before .before .before .before .before .pre .0 .3), c .before .before .before .before .before .before .before .before .before .before .pre .1 .0 .0)), omega (arith, p .1 .0 .1)),
       (rw k (p .1 .1 .0), rw k (first-accepted s (c .before .before .before .before .before .before .before .before .before .before .args .height) (c .before .before .before .before .before .before .before .before .before .before .args .«data» .now) (c .before .before .before .before .before .before .before .before .before .before .args .y) (c .before .before .before .before .before .before .before .before .before .before .args .picture .now) (p .0 .2) (let a = c .before .before .before .before .before .before .before .before .before .before .args in omega (arith, row-there (a .s .width) (a .height) (a .y) (c .before .before .before .before .before .before .before .before .before .before .pre .0 .3), c .before .before .before .before .before .before .before .before .before .before .pre .1 .0 .0)) (p .1 .1 .1) (p .0 .3))),
     ))

@@ -7,7 +7,7 @@ use Rattle.pixel.proofs.Blocks.{row-there}
 use Rattle.store.specs.Stage.{stepsIn}
 use Rattle.store.proofs.Copied.{first-row, part-room}
 use Rattle.store.proofs.First.{first-takes, first-width, started-first, started-none}
-use Rattle.store.proofs.Stages.{step-sized}
+use Rattle.store.proofs.Stages.{step-sized, after-fits}
 use Rattle.store.proofs.row.start_row.Statement.{statement}
 use Rattle.store.proofs.row.start_row.Tie as tie
 
@@ -21,7 +21,7 @@ start-row-spec =
     let p = c .before .before .before .before .before .before .before .before .pre in
     let t = c .before .before .before .table-first .ensures (c .before .before .if1 .taken) in
     let w = first-width _ _ _ _ _ (p .0 .0) (c .before .before .before .before .before .before .before .before .args .«data» .now) (pixels (c .before .before .before .before .before .before .before .before .args .picture .now)) (t .0) in
-    ((step-sized _ _ _ _ _ (p .0 .0) 0 (t .0), p .0 .0 .valid 0 (t .0), t .1, p .0 .2), ((rw w (p .1 .0 .0), p .1 .1), (p .0 .1 .found 0 (t .0) (t .1), first-takes _ _ _ _ _ (p .0 .0) _ _ (t .0) (p .1 .0 .1)))))
+    ((step-sized _ _ _ _ _ (p .0 .0) 0 (t .0), p .0 .0 .valid 0 (t .0), t .1, p .0 .2), ((rw w (p .1 .0 .0), omega (arith, after-fits _ _ _ _ _ (p .0 .0) 1 (t .0), p .1 .1)), (p .0 .1 .found 0 (t .0) (t .1), first-takes _ _ _ _ _ (p .0 .0) _ _ (t .0) (p .1 .0 .1)))))
     (λ c. search needs)
     (λ c.
     let p = c .before .before .before .before .before .before .before .before .before .before .before .pre in

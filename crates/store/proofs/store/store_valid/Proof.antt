@@ -30,7 +30,7 @@ store-valid-spec =
     (λ c. search needs)
     (λ c.
     let e = sym (c .before .before .before .before .before .before .before .before .before .before .before .before .accept-picture .ensures) ∙ c .before .before .before .before .before .before .before .before .before .if1 .taken in
-    record { answer = rw e refl; bytes = rw e (c .before .before .before .before .store-rows .ensures) })
+    record { answer = rw e refl; bytes = rw e (c .before .before .before .before .store-accepted .ensures) })
     (λ c.
     let e = sym (c .before .before .before .accept-picture .ensures) ∙ c .if1 .left in
     record { answer = rw e refl; bytes = rw e refl }))

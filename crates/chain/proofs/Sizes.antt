@@ -3,12 +3,11 @@ use mathlib.Core.Bool.{Bool, true, false, _&&_}
 use mathlib.Core.List.{List}
 use mathlib.Core.Path.{_≡_, refl, sym, _∙_}
 use Prim.Native.Nat.{ℕ, _%_, _≤_, _<_}
-use native.Mathlib.Omega.{arith}
 use borrow.Author.Tests.{eq-eqb, ne-eqb, le-leb, lt-leb, leb-true}
 use lib.Dec.{leb, eqb}
 use lib.ListN.{length}
 use Rattle.format.specs.Sizes.{Sized}
-use Rattle.format.specs.Refusals.{inRange, wholeRecords, recordsRefusal, chainRefusal}
+use Rattle.format.specs.Refusals.{inRange, recordsRefusal, chainRefusal}
 use Rattle.format.specs.Chain.{count}
 use Rattle.format.proofs.Choice.{and-left, and-right, and-both}
 use Rattle.format.proofs.Valid.{chain-unsized, chain-broken, chain-records}

@@ -8,7 +8,7 @@ use native.Mathlib.Omega.{arith}
 use borrow.Author.Tests.{leb-true, le-leb, lt-leb}
 use lib.Dec.{leb, lit<}
 use Rattle.format.specs.Choice.{if_then_else_}
-use Rattle.format.specs.ColorTable.{perPixel, range, lowest, digits, packed}
+use Rattle.format.specs.ColorTable.{perPixel, range, digits}
 use Rattle.color_table.specs.Pack.{Row}
 
 -- n indices to the base u go into a byte

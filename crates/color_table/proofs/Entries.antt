@@ -1,8 +1,7 @@
 -- Rows of a table replaced one by one.
 use mathlib.Core.List.{List, [], _∷_}
 use mathlib.Core.Path.{_≡_, refl, _∙_}
-use Prim.Native.Nat.{ℕ, _+_, _*_, _/_, _%_, _<_, _≤_}
-use native.Mathlib.Nat.{mod-lt, div-lt-iff-lt-mul, mul-le-mul}
+use Prim.Native.Nat.{ℕ, _+_, _<_, _≤_}
 use native.Mathlib.Decide.{ℕ-discrete, decLt}
 use native.Mathlib.Omega.{arith}
 use borrow.Author.Tests.{lt-ltb, le-ltb}
@@ -12,20 +11,7 @@ use Rattle.format.specs.declared.Pixel.{Pixel}
 use Rattle.format.specs.Pixel.{pixel, clear}
 use Rattle.format.specs.Picture.{Picture, byteAt}
 use Rattle.format.specs.ColorTable.{entry}
-use Rattle.color_table.specs.Table.{entryIn, secondIn, pairBytes, TableOf, PairsOf}
-
-module _ (u : ℕ) (least : 1 ≤ u) (most : u ≤ 16) where
-  pub square-small : u * u ≤ 256
-  square-small = mul-le-mul most most
-
-  pub low-small : (k : ℕ) → k % u < u
-  low-small k = mod-lt k least
-
-  pub high-small : (k : ℕ) → k < u * u → k / u < u
-  high-small k l = div-lt-iff-lt-mul least .1 l
-
-pub square-some : (u : ℕ) → 1 ≤ u → 0 < u * u
-square-some u h = mul-le-mul h h
+use Rattle.color_table.specs.Table.{entryIn, TableOf}
 
 -- no entries
 
@@ -75,37 +61,3 @@ padded-whole size i e t h z q = record { at = λ j l. go j (decLt j size) }
     go : (j : ℕ) → Dec (j < size) → entryIn t j ≡ entry size e j
     go j (yes k) = rw (lt-ltb j size k) (h j (omega arith))
     go j (no k) = let g : size ≤ j = omega arith in rw (le-ltb j size g) (z j (omega arith))
-
--- pairs
-
--- the first k pairs are there
-pub record Pairs (u k : ℕ) (t p : List (List ℕ)) : Type 0 where
-  pub first : (j : ℕ) → j < k → entryIn p j ≡ entryIn t (j % u)
-  pub second : (j : ℕ) → j < k → secondIn p j ≡ entryIn t (j / u)
-
-pub pairs-none : (u : ℕ) (t p : List (List ℕ)) → Pairs u 0 t p
-pairs-none u t p = record { first = λ j l. absurd (no j l); second = λ j l. absurd (no j l) }
-  where
-    no : (j : ℕ) → j < 0 → ⊥
-    no j l = omega arith
-
-pub pairs-more : (u k : ℕ) (t p : List (List ℕ)) (r : List ℕ) → Pairs u k t p → r ≡ pairBytes (entryIn t (k % u)) (entryIn t (k / u)) → k < length p → Pairs u (k + 1) t (set p k r)
-unfolding entryIn secondIn
-pairs-more u k t p r h e l = record { first = λ j m. one j m (ℕ-discrete j k); second = λ j m. two j m (ℕ-discrete j k) }
-  where
-    same : getD (set p k r) k [] ≡ pairBytes (entryIn t (k % u)) (entryIn t (k / u))
-    same = getD-set-same p k r [] l ∙ e
-
-    one : (j : ℕ) → j < k + 1 → Dec (j ≡ k) → entryIn (set p k r) j ≡ entryIn t (j % u)
-    one j m (yes q) = rw q (let s = same in cc)
-    one j m (no n) = let o = getD-set-other p k j r [] n in let f = h .first j (omega arith) in cc
-
-    two : (j : ℕ) → j < k + 1 → Dec (j ≡ k) → secondIn (set p k r) j ≡ entryIn t (j / u)
-    two j m (yes q) = rw q (let s = same in cc)
-    two j m (no n) = let o = getD-set-other p k j r [] n in let f = h .second j (omega arith) in cc
-
-pub pairs-whole : (u k : ℕ) (t p : List (List ℕ)) → Pairs u k t p → u * u ≤ k → 1 ≤ u → (e : Picture) → TableOf u e t → PairsOf u e p
-pairs-whole u k t p h l pos e t-of = record {
-  first = λ j m. h .first j (omega arith) ∙ t-of .at (j % u) (mod-lt j pos);
-  second = λ j m. h .second j (omega arith) ∙ t-of .at (j / u) (div-lt-iff-lt-mul pos .1 m);
-}

@@ -3,17 +3,18 @@ use mathlib.Core.List.{List}
 use mathlib.Core.Path.{_≡_, refl, sym, ap, _∙_}
 use Prim.Native.Nat.{ℕ, suc, _+_, _-_, _*_, _/_, _%_, _^_, _<_, _≤_}
 use native.Mathlib.Nat.{pow-zero, pow-suc, div-one, div-div-eq-div-mul, mod-lt, mul-le-mul-left, mul-le-mul-right, mul-one, suc-mul, div-lt-iff-lt-mul, div-mul-le-self, lt-div-mul-add, div-le-of-le-mul}
+use native.Mathlib.Decide.{ℕ-discrete}
 use native.Mathlib.Omega.{arith}
-use lib.Arith.{digits-div, digits-mod, mod-mul}
+use lib.Arith.{digits-div, digits-mod}
 use lib.ListN.{length, take, drop}
 use Rattle.format.specs.declared.Pixel.{Pixel}
 use Rattle.format.specs.Picture.{Picture, pixels, ceiling}
 use Rattle.format.specs.ColorTable.{perPixel, range, packedWidth, entry, unpacked}
 use Rattle.format.proofs.ColorTable.{perPixel-pos, column-packed, ceiling-pos}
 use Rattle.pixel.specs.Cells.{pixelCells, putPixel, run, given}
-use Rattle.pixel.proofs.Cells.{pixel-lawful, run-before}
+use Rattle.pixel.proofs.Cells.{pixel-lawful, run-before, run-at}
 use Rattle.pixel.proofs.Part.{back, part-run, pixel-part}
-use Rattle.color_table.specs.Table.{entryIn, secondIn, TableOf, PairsOf}
+use Rattle.color_table.specs.Table.{entryIn, TableOf, ColumnsOf}
 use Rattle.color_table.specs.Unpack.{spread, rowOf}
 use Rattle.pixel.proofs.Given.{given-put, given-same, given-join}
 
@@ -27,11 +28,6 @@ digit-next u b₀ b k e =
     let n : suc k ≡ k + 1 = omega arith in
     ap (λ (z : ℕ). z / u) e ∙ div-div-eq-div-mul b₀ (u ^ k) u ∙ ap (λ (z : ℕ). b₀ / z) (sym (pow-suc u k)) ∙ ap (λ (z : ℕ). b₀ / u ^ z) n
 
-pub digit-second : (u b₀ b k : ℕ) → b ≡ b₀ / u ^ k → b / (u * u) ≡ b₀ / u ^ (k + 2)
-digit-second u b₀ b k e =
-    let n : k + 1 + 1 ≡ k + 2 = omega arith in
-    sym (div-div-eq-div-mul b u u) ∙ digit-next u b₀ (b / u) (k + 1) (digit-next u b₀ b k e) ∙ ap (λ (z : ℕ). b₀ / u ^ z) n
-
 module _ (u : ℕ) (e : Picture) (b₀ a : ℕ) where
   spread-at : (b k : ℕ) → b ≡ b₀ / u ^ k → e (b % u) ≡ spread u e b₀ a (a + k)
   unfolding spread
@@ -44,23 +40,45 @@ module _ (u : ℕ) (e : Picture) (b₀ a : ℕ) where
       → v ≡ entryIn t (b % u) → ys ≡ putPixel xs (a + k) v → 0 < u → ys ≡ run pixelCells (given (spread u e b₀ a)) a (k + 1) xs₀
   spread-more k b t xs₀ xs ys v h r q s p pos = given-put (spread u e b₀ a) a k xs₀ xs ys v r (s ∙ h .at (b % u) (mod-lt b pos) ∙ spread-at b k q) p
 
-  -- two indices more
-  pub spread-pair : (k b : ℕ) (t : List (List ℕ)) (xs₀ xs ys : List ℕ) → PairsOf u e t → xs ≡ run pixelCells (given (spread u e b₀ a)) a k xs₀ → b ≡ b₀ / u ^ k
-      → ys ≡ putPixel (putPixel xs (a + k) (entryIn t (b % (u * u)))) (a + k + 1) (secondIn t (b % (u * u))) → 0 < u → 0 < u * u
-      → ys ≡ run pixelCells (given (spread u e b₀ a)) a (k + 2) xs₀
-  spread-pair k b t xs₀ xs ys h r q p pos square =
-      let c = b % (u * u) in
-      let l : c < u * u = mod-lt b square in
-      let m : b % u < u = mod-lt b pos in
-      let split : c ≡ b / u % u * u + b % u = mod-mul b pos pos in
-      let low : c % u ≡ b % u = ap (λ (z : ℕ). z % u) split ∙ digits-mod (b / u % u) m in
-      let high : c / u ≡ b / u % u = ap (λ (z : ℕ). z / u) split ∙ digits-div (b / u % u) m in
-      let i : a + k + 1 ≡ a + (k + 1) = omega arith in
-      let n : k + 1 + 1 ≡ k + 2 = omega arith in
-      let one : putPixel xs (a + k) (entryIn t c) ≡ run pixelCells (given (spread u e b₀ a)) a (k + 1) xs₀ =
-      given-put (spread u e b₀ a) a k xs₀ xs (putPixel xs (a + k) (entryIn t c)) (entryIn t c) r (h .first c l ∙ ap e low ∙ spread-at b k q) refl in
-      let two : secondIn t c ≡ spread u e b₀ a (a + (k + 1)) = h .second c l ∙ ap e high ∙ spread-at (b / u) (k + 1) (digit-next u b₀ b k q) in
-      rw n at (given-put (spread u e b₀ a) a (k + 1) xs₀ (putPixel xs (a + k) (entryIn t c)) ys (secondIn t c) one two (rw i at p))
+  -- one column more, from the columns of every byte
+  pub column-more : (n k m i j : ℕ) (c xs₀ xs ys : List ℕ) (v : Pixel) → ColumnsOf u n e c → xs ≡ run pixelCells (given (spread u e b₀ a)) a k xs₀ → v ≡ pixels c j → ys ≡ putPixel xs i v → b₀ < 256 → k < n
+      → i ≡ a + k → j ≡ b₀ * n + k → m ≡ k + 1 → ys ≡ run pixelCells (given (spread u e b₀ a)) a m xs₀
+  column-more n k m i j c xs₀ xs ys v h r q p l s x y z =
+      rw z (given-put (spread u e b₀ a) a k xs₀ xs ys v r (rw y at q ∙ h .at b₀ k l s ∙ spread-at (b₀ / u ^ k) k refl) (rw x at p))
+
+  pub column-two : (n k : ℕ) (c xs₀ xs ys : List ℕ) → ColumnsOf u n e c → xs ≡ run pixelCells (given (spread u e b₀ a)) a k xs₀
+      → ys ≡ putPixel (putPixel xs (a + k) (pixels c (b₀ * n + k))) (a + k + 1) (pixels c (b₀ * n + k + 1)) → b₀ < 256 → k + 2 ≤ n → ys ≡ run pixelCells (given (spread u e b₀ a)) a (k + 2) xs₀
+  column-two n k c xs₀ xs ys h r p l s =
+      let one = column-more n k (k + 1) (a + k) (b₀ * n + k) c xs₀ xs _ _ h r refl refl l (omega arith) refl refl refl in
+      column-more n (k + 1) (k + 2) (a + k + 1) (b₀ * n + k + 1) c xs₀ _ ys _ h one refl p l (omega arith) (omega arith) (omega arith) (omega arith)
+
+  pub column-four : (n k : ℕ) (c xs₀ xs ys : List ℕ) → ColumnsOf u n e c → xs ≡ run pixelCells (given (spread u e b₀ a)) a k xs₀
+      → ys ≡ putPixel (putPixel (putPixel (putPixel xs (a + k) (pixels c (b₀ * n + k))) (a + k + 1) (pixels c (b₀ * n + k + 1))) (a + k + 2) (pixels c (b₀ * n + k + 2))) (a + k + 3) (pixels c (b₀ * n + k + 3)) → b₀ < 256
+      → k + 4 ≤ n → ys ≡ run pixelCells (given (spread u e b₀ a)) a (k + 4) xs₀
+  column-four n k c xs₀ xs ys h r p l s =
+      let two = column-two n k c xs₀ xs _ h r refl l (omega arith) in
+      let three = column-more n (k + 2) (k + 3) (a + k + 2) (b₀ * n + k + 2) c xs₀ _ _ _ h two refl refl l (omega arith) (omega arith) (omega arith) (omega arith) in
+      column-more n (k + 3) (k + 4) (a + k + 3) (b₀ * n + k + 3) c xs₀ _ ys _ h three refl p l (omega arith) (omega arith) (omega arith) (omega arith)
+
+-- the columns of byte b stand after those of the bytes before it
+pub columns-room : (b n : ℕ) → b < 256 → b * n + n ≤ 256 * n
+columns-room b n l = let a = mul-le-mul-right n l in let s = suc-mul b n in omega arith
+
+-- the columns of one byte more
+pub columns-more : (u n : ℕ) (e : Picture) (b : ℕ) (xs ys : List ℕ) → ((c k : ℕ) → c < b → k < n → pixels xs (c * n + k) ≡ e (c / u ^ k % u))
+    → ys ≡ run pixelCells (given (spread u e b (b * n))) (b * n) n xs → 4 * (b * n + n) ≤ length xs → (c k : ℕ) → c < b + 1 → k < n → pixels ys (c * n + k) ≡ e (c / u ^ k % u)
+unfolding given
+columns-more u n e b xs ys h r room c k l m = ap (λ (zs : List ℕ). pixels zs (c * n + k)) r ∙ go (ℕ-discrete c b)
+  where
+    go : Dec (c ≡ b) → pixels (run pixelCells (given (spread u e b (b * n))) (b * n) n xs) (c * n + k) ≡ e (c / u ^ k % u)
+    go (yes q) =
+        rw q
+        (run-at pixelCells pixel-lawful (given (spread u e b (b * n))) (b * n) xs n (b * n + k) (omega arith) (omega arith) (omega arith)
+        ∙ sym (spread-at u e b (b * n) (b / u ^ k) k refl))
+    go (no d) =
+        let s : c < b = omega arith in
+        let f : c * n + n ≤ b * n = omega (arith, mul-le-mul-right n s, suc-mul c n) in
+        run-before pixelCells pixel-lawful (given (spread u e b (b * n))) (b * n) xs n (c * n + k) (omega arith) ∙ h c k s m
 
 -- packed pixels of a row
 

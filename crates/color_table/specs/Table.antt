@@ -1,28 +1,19 @@
--- Color tables as arrays of rows of bytes.
-use mathlib.Core.List.{List, [], _∷_}
+-- Color tables as arrays of rows of bytes, and the columns that are made of them.
+use mathlib.Core.List.{List, []}
 use mathlib.Core.Path.{_≡_}
-use Prim.Native.Nat.{ℕ, _*_, _/_, _%_, _<_}
+use Prim.Native.Nat.{ℕ, _+_, _*_, _/_, _%_, _^_, _<_}
 use lib.ListN.{getD}
-use Rattle.format.specs.declared.Pixel.{Pixel}
 use Rattle.format.specs.Pixel.{pixel}
-use Rattle.format.specs.Picture.{Picture, byteAt}
+use Rattle.format.specs.Picture.{Picture, byteAt, pixels}
 
 -- entry i of a table: row i, its first four bytes
 unfoldable pub entryIn : List (List ℕ) → Picture
 entryIn t i = pixel (byteAt (getD t i []) 0) (byteAt (getD t i []) 1) (byteAt (getD t i []) 2) (byteAt (getD t i []) 3)
 
--- the second entry of row k, where a row has eight bytes
-unfoldable pub secondIn : List (List ℕ) → Picture
-secondIn p k = pixel (byteAt (getD p k []) 4) (byteAt (getD p k []) 5) (byteAt (getD p k []) 6) (byteAt (getD p k []) 7)
-
-abbrev pub pairBytes : Pixel → Pixel → List ℕ
-pairBytes u v = u .red ∷ u .green ∷ u .blue ∷ u .alpha ∷ v .red ∷ v .green ∷ v .blue ∷ v .alpha ∷ []
-
 -- the first u entries of the table t are those of e
 pub record TableOf (u : ℕ) (e : Picture) (t : List (List ℕ)) : Type 0 where
   pub at : (i : ℕ) → i < u → entryIn t i ≡ e i
 
--- pair k is the entries of e at two indices below u, of which k is made, the lower digit first
-pub record PairsOf (u : ℕ) (e : Picture) (p : List (List ℕ)) : Type 0 where
-  pub first : (k : ℕ) → k < u * u → entryIn p k ≡ e (k % u)
-  pub second : (k : ℕ) → k < u * u → secondIn p k ≡ e (k / u)
+-- from pixel b * n on, the entries of e at the n indices of the byte b, each below u, lowest first
+pub record ColumnsOf (u n : ℕ) (e : Picture) (c : List ℕ) : Type 0 where
+  pub at : (b k : ℕ) → b < 256 → k < n → pixels c (b * n + k) ≡ e (b / u ^ k % u)

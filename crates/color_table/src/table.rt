@@ -1,13 +1,16 @@
-// The color table, padded so that every byte is an index, and the table of pairs made of it.
+// The color table, padded so that every byte is an index, and the columns of every byte that are made of it.
 use format::Pixel;
 use pixel::pixel::pixel_at;
+use pixel::pixel::put_pixel;
 ghost use mathlib.Core.Path.{_≡_};
-ghost use Prim.Native.Nat.{ℕ, _*_, _^_, _<_, _≤_};
+ghost use Prim.Native.Nat.{ℕ, _+_, _*_, _^_, _≤_};
 ghost use lib.ListN.{length};
 ghost use Rattle.format.specs.Pixel.{clear};
 ghost use Rattle.format.specs.Picture.{pixels, Picture};
 ghost use Rattle.format.specs.ColorTable.{perPixel, range, entry};
-ghost use Rattle.color_table.specs.Table.{entryIn, secondIn, pairBytes, TableOf, PairsOf};
+ghost use Rattle.pixel.specs.Cells.{pixelCells, run, given};
+ghost use Rattle.color_table.specs.Table.{entryIn, TableOf, ColumnsOf};
+ghost use Rattle.color_table.specs.Unpack.{spread};
 
 // How many indices a packed pixel holds.
 pub fn per_pixel(size: usize) -> usize
@@ -53,41 +56,17 @@ pub fn entry_at(table: &[[u8; 4]; 256], i: u8) -> Pixel
     }
 }
 
-pub fn first_at(pairs: &[[u8; 8]; 256], k: usize) -> Pixel
-    requires { ⌜ k < 256 ⌝ }
-    ensures { λ r. ⌜ r ≡ entryIn (now (pairs .entry)) k ⌝ }
-{
-    Pixel {
-        red: pairs[k][0],
-        green: pairs[k][1],
-        blue: pairs[k][2],
-        alpha: pairs[k][3],
-    }
-}
-
-pub fn second_at(pairs: &[[u8; 8]; 256], k: usize) -> Pixel
-    requires { ⌜ k < 256 ⌝ }
-    ensures { λ r. ⌜ r ≡ secondIn (now (pairs .entry)) k ⌝ }
-{
-    Pixel {
-        red: pairs[k][4],
-        green: pairs[k][5],
-        blue: pairs[k][6],
-        alpha: pairs[k][7],
-    }
-}
-
 fn no_entries() -> [[u8; 4]; 256]
     ensures { λ r. ⌜ (length r ≡ 256) × ((i : ℕ) → entryIn r i ≡ clear) ⌝ }
 {
     [[0u8; 4]; 256]
 }
 
-// Where a packed pixel holds one index, no pair is looked up.
-pub fn no_pairs() -> [[u8; 8]; 256]
-    ensures { λ r. ⌜ length r ≡ 256 ⌝ }
+// Where a packed pixel holds one index, no columns are looked up.
+pub fn no_columns() -> [u8; 8192]
+    ensures { λ r. ⌜ length r ≡ 8192 ⌝ }
 {
-    [[0u8; 8]; 256]
+    [0u8; 8192]
 }
 
 // The entries, and (0, 0, 0, 0) from `size` on.
@@ -105,33 +84,37 @@ pub fn padded(entries: &[u8], size: usize) -> [[u8; 4]; 256]
     table
 }
 
-fn pair_of(table: &[[u8; 4]; 256], a: u8, b: u8) -> [u8; 8]
-    ensures { λ r. ⌜ r ≡ pairBytes (entryIn (now (table .entry)) a) (entryIn (now (table .entry)) b) ⌝ }
+// The pixels of the n indices of `byte`, from pixel a on.
+fn put_indices(
+    columns: &mut [u8],
+    a: usize,
+    n: usize,
+    range: usize,
+    byte: u8,
+    table: &[[u8; 4]; 256],
+)
+    requires { ⌜ (1 ≤ range) × (range ≤ 16) × (4 * (a + n) ≤ length (now columns)) ⌝ }
+    ensures { λ _. ⌜ ((e : Picture) → TableOf range e (now (table .entry)) → now (columns .exit) ≡ run pixelCells (given (spread range e byte a)) a n (now (columns .entry))) ⌝ }
 {
-    let u = entry_at(table, a);
-    let v = entry_at(table, b);
-    [
-        u.red,
-        u.green,
-        u.blue,
-        u.alpha,
-        v.red,
-        v.green,
-        v.blue,
-        v.alpha,
-    ]
-}
-
-// The pixels of every two neighboring indices below `range`.
-pub fn paired(table: [[u8; 4]; 256], range: usize) -> [[u8; 8]; 256]
-    requires { ⌜ (1 ≤ range) × (range ≤ 16) ⌝ }
-    ensures { λ r. ⌜ ((e : Picture) → TableOf range e table → PairsOf range e r) ⌝ }
-{
-    let mut pairs = no_pairs();
+    let mut b = byte as usize;
     let mut k = 0;
-    while k < range * range {
-        pairs[k] = pair_of(&table, (k % range) as u8, (k / range) as u8);
+    while k < n {
+        put_pixel(columns, a + k, entry_at(table, (b % range) as u8));
+        b = b / range;
         k += 1;
     }
-    pairs
+}
+
+// The pixels of the n indices of every byte, those of byte b from pixel b * n on.
+pub fn columns_of(table: [[u8; 4]; 256], n: usize, range: usize) -> [u8; 8192]
+    requires { ⌜ (n ≤ 8) × (1 ≤ range) × (range ≤ 16) ⌝ }
+    ensures { λ r. ⌜ ((e : Picture) → TableOf range e table → ColumnsOf range n e r) ⌝ }
+{
+    let mut columns = no_columns();
+    let mut b = 0;
+    while b < 256 {
+        put_indices(&mut columns, b * n, n, range, b as u8, &table);
+        b += 1;
+    }
+    columns
 }

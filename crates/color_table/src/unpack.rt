@@ -1,23 +1,23 @@
 // Unpacking in place: the buffer's front holds the packed rows, and it becomes the expanded rows. Rows are done from the bottom and each row from the
 // right, because an expanded pixel may lie where a packed one of the same row or of a row above stands.
+use crate::table::columns_of;
 use crate::table::entry_at;
-use crate::table::first_at;
 use crate::table::index_range;
-use crate::table::no_pairs;
+use crate::table::no_columns;
 use crate::table::padded;
-use crate::table::paired;
 use crate::table::per_pixel;
-use crate::table::second_at;
 use format::Pixel;
 use pixel::pixel::put_pixel;
+use pixel::word::put_word;
+use pixel::word::word_at;
 ghost use mathlib.Core.Path.{_≡_};
-ghost use Prim.Native.Nat.{_+_, _-_, _*_, _%_, _<_, _≤_};
+ghost use Prim.Native.Nat.{ℕ, _+_, _-_, _*_, _%_, _<_, _≤_};
 ghost use lib.ListN.{length};
 ghost use Rattle.format.specs.Picture.{Picture, pixels, written};
 ghost use Rattle.format.specs.ColorTable.{perPixel, range, packedWidth, entry, unpacked};
 ghost use Rattle.pixel.specs.Cells.{pixelCells, putPixel, run, given};
 ghost use Rattle.format.specs.Sizes.{Sized, Holds};
-ghost use Rattle.color_table.specs.Table.{entryIn, secondIn, TableOf, PairsOf};
+ghost use Rattle.color_table.specs.Table.{entryIn, TableOf, ColumnsOf};
 ghost use Rattle.color_table.specs.Unpack.{spread, rowOf, looked};
 
 // Columns of a row of packed pixels.
@@ -43,84 +43,80 @@ fn packed_byte(part: &[u8], k: usize) -> u8
     part[4 * k + 1]
 }
 
-// Pair k as pixels i and i + 1. Both are read before one is written, so that the eight bytes are moved at once.
-fn put_pair(part: &mut [u8], i: usize, pairs: &[[u8; 8]; 256], k: usize)
-    requires { ⌜ (4 * i + 8 ≤ length (now part)) × (k < 256) ⌝ }
-    ensures { λ _. ⌜ now (part .exit) ≡ putPixel (putPixel (now (part .entry)) i (entryIn (now (pairs .entry)) k)) (i + 1) (secondIn (now (pairs .entry)) k) ⌝ }
+// Pixels j and j + 1 of `columns` as pixels i and i + 1. Both are read before one is written, so that the eight bytes are moved at once. By words the code is small enough to be
+// compiled anew for each n that `unpack_band` passes.
+fn put_two(part: &mut [u8], i: usize, columns: &[u8; 8192], j: usize)
+    requires { ⌜ (4 * i + 8 ≤ length (now part)) × (j + 2 ≤ 2048) ⌝ }
+    ensures { λ _. ⌜ now (part .exit) ≡ putPixel (putPixel (now (part .entry)) i (pixels (now (columns .entry)) j)) (i + 1) (pixels (now (columns .entry)) (j + 1)) ⌝ }
 {
-    let u = first_at(pairs, k);
-    let v = second_at(pairs, k);
-    put_pixel(part, i, u);
-    put_pixel(part, i + 1, v);
+    let u = word_at(columns, j);
+    let v = word_at(columns, j + 1);
+    put_word(part, i, u);
+    put_word(part, i + 1, v);
 }
 
-// The pixels of the n indices of `byte`, from pixel a on, two at a time.
-fn expand(part: &mut [u8], a: usize, n: usize, range: usize, byte: u8, pairs: &[[u8; 8]; 256])
-    requires { ⌜ (n % 2 ≡ 0) × (1 ≤ range) × (range ≤ 16) × (4 * (a + n) ≤ length (now part)) ⌝ }
-    ensures { λ _. ⌜ ((e : Picture) → PairsOf range e (now (pairs .entry)) → now (part .exit) ≡ run pixelCells (given (spread range e byte a)) a n (now (part .entry))) ⌝ }
+// Four likewise: sixteen bytes at once.
+fn put_four(part: &mut [u8], i: usize, columns: &[u8; 8192], j: usize)
+    requires { ⌜ (4 * i + 16 ≤ length (now part)) × (j + 4 ≤ 2048) ⌝ }
+    ensures { λ _. ⌜ now (part .exit) ≡ putPixel (putPixel (putPixel (putPixel (now (part .entry)) i (pixels (now (columns .entry)) j)) (i + 1) (pixels (now (columns .entry)) (j + 1))) (i + 2) (pixels (now (columns .entry)) (j + 2))) (i + 3) (pixels (now (columns .entry)) (j + 3)) ⌝ }
 {
-    let mut b = byte as usize;
+    let t = word_at(columns, j);
+    let u = word_at(columns, j + 1);
+    let v = word_at(columns, j + 2);
+    let w = word_at(columns, j + 3);
+    put_word(part, i, t);
+    put_word(part, i + 1, u);
+    put_word(part, i + 2, v);
+    put_word(part, i + 3, w);
+}
+
+// The n columns of `byte`, from pixel a on: by fours, since what takes time is the number of stores.
+fn expand(part: &mut [u8], a: usize, n: usize, byte: u8, columns: &[u8; 8192])
+    requires { ⌜ (n % 2 ≡ 0) × (n ≤ 8) × (4 * (a + n) ≤ length (now part)) ⌝ }
+    ensures { λ _. ⌜ ((u : ℕ) (e : Picture) → ColumnsOf u n e (now (columns .entry)) → now (part .exit) ≡ run pixelCells (given (spread u e byte a)) a n (now (part .entry))) ⌝ }
+{
+    let from = byte as usize * n;
     let mut k = 0;
-    while k < n {
-        put_pair(part, a + k, pairs, b % (range * range));
-        b = b / (range * range);
-        k += 2;
+    while k + 4 <= n {
+        put_four(part, a + k, columns, from + k);
+        k += 4;
+    }
+    if k < n {
+        put_two(part, a + k, columns, from + k);
     }
 }
 
-// The pixels of the first `count` indices of `byte`, from pixel a on.
-fn expand_last(
-    part: &mut [u8],
-    a: usize,
-    count: usize,
-    range: usize,
-    byte: u8,
-    table: &[[u8; 4]; 256],
-)
-    requires { ⌜ (1 ≤ range) × (range ≤ 16) × (4 * (a + count) ≤ length (now part)) ⌝ }
-    ensures { λ _. ⌜ ((e : Picture) → TableOf range e (now (table .entry)) → now (part .exit) ≡ run pixelCells (given (spread range e byte a)) a count (now (part .entry))) ⌝ }
+// The first `count` columns of `byte`, from pixel a on.
+fn expand_last(part: &mut [u8], a: usize, count: usize, n: usize, byte: u8, columns: &[u8; 8192])
+    requires { ⌜ (count ≤ n) × (n ≤ 8) × (4 * (a + count) ≤ length (now part)) ⌝ }
+    ensures { λ _. ⌜ ((u : ℕ) (e : Picture) → ColumnsOf u n e (now (columns .entry)) → now (part .exit) ≡ run pixelCells (given (spread u e byte a)) a count (now (part .entry))) ⌝ }
 {
-    let mut b = byte as usize;
+    let from = byte as usize * n;
     let mut k = 0;
     while k < count {
-        put_pixel(part, a + k, entry_at(table, (b % range) as u8));
-        b = b / range;
+        put_word(part, a + k, word_at(columns, from + k));
         k += 1;
     }
 }
 
 // The columns of packed pixel k of the row that starts at pixel `first`.
-fn unpack_pixel(
-    part: &mut [u8],
-    first: usize,
-    k: usize,
-    n: usize,
-    range: usize,
-    pairs: &[[u8; 8]; 256],
-)
-    requires { ⌜ (n % 2 ≡ 0) × (1 ≤ n) × (1 ≤ range) × (range ≤ 16) × (4 * (first + k * n + n) ≤ length (now part)) ⌝ }
-    ensures { λ _. ⌜ ((e : Picture) → PairsOf range e (now (pairs .entry)) → now (part .exit) ≡ run pixelCells (given (rowOf range n e (pixels (now (part .entry))) first)) (first + k * n) n (now (part .entry))) ⌝ }
+fn unpack_pixel(part: &mut [u8], first: usize, k: usize, n: usize, columns: &[u8; 8192])
+    requires { ⌜ (n % 2 ≡ 0) × (1 ≤ n) × (n ≤ 8) × (4 * (first + k * n + n) ≤ length (now part)) ⌝ }
+    ensures { λ _. ⌜ ((u : ℕ) (e : Picture) → ColumnsOf u n e (now (columns .entry)) → now (part .exit) ≡ run pixelCells (given (rowOf u n e (pixels (now (part .entry))) first)) (first + k * n) n (now (part .entry))) ⌝ }
 {
     let byte = packed_byte(part, k);
-    expand(part, first + k * n, n, range, byte, pairs);
+    expand(part, first + k * n, n, byte, columns);
 }
 
 // The columns of the first `count` packed pixels.
-fn unpack_pixels(
-    part: &mut [u8],
-    first: usize,
-    count: usize,
-    n: usize,
-    range: usize,
-    pairs: &[[u8; 8]; 256],
-)
-    requires { ⌜ (n % 2 ≡ 0) × (1 ≤ n) × (1 ≤ range) × (range ≤ 16) × (4 * (first + count * n) ≤ length (now part)) ⌝ }
-    ensures { λ _. ⌜ ((e : Picture) → PairsOf range e (now (pairs .entry)) → now (part .exit) ≡ run pixelCells (given (rowOf range n e (pixels (now (part .entry))) first)) first (count * n) (now (part .entry))) ⌝ }
+fn unpack_pixels(part: &mut [u8], first: usize, count: usize, n: usize, columns: &[u8; 8192])
+    requires { ⌜ (n % 2 ≡ 0) × (1 ≤ n) × (n ≤ 8) × (4 * (first + count * n) ≤ length (now part)) ⌝ }
+    ensures { λ _. ⌜ ((u : ℕ) (e : Picture) → ColumnsOf u n e (now (columns .entry)) → now (part .exit) ≡ run pixelCells (given (rowOf u n e (pixels (now (part .entry))) first)) first (count * n) (now (part .entry))) ⌝ }
 {
     let mut k = count;
     while 0 < k {
         k -= 1;
-        unpack_pixel(part, first, k, n, range, pairs);
+        unpack_pixel(part, first, k, n, columns);
     }
 }
 
@@ -131,32 +127,23 @@ fn unpack_last(
     k: usize,
     width: usize,
     n: usize,
-    range: usize,
-    table: &[[u8; 4]; 256],
+    columns: &[u8; 8192],
 )
-    requires { ⌜ (1 ≤ n) × (k * n < width) × (width ≤ k * n + n) × (1 ≤ range) × (range ≤ 16) × (4 * (first + width) ≤ length (now part)) ⌝ }
-    ensures { λ _. ⌜ ((e : Picture) → TableOf range e (now (table .entry)) → now (part .exit) ≡ run pixelCells (given (rowOf range n e (pixels (now (part .entry))) first)) (first + k * n) (width - k * n) (now (part .entry))) ⌝ }
+    requires { ⌜ (1 ≤ n) × (k * n < width) × (width ≤ k * n + n) × (n ≤ 8) × (4 * (first + width) ≤ length (now part)) ⌝ }
+    ensures { λ _. ⌜ ((u : ℕ) (e : Picture) → ColumnsOf u n e (now (columns .entry)) → now (part .exit) ≡ run pixelCells (given (rowOf u n e (pixels (now (part .entry))) first)) (first + k * n) (width - k * n) (now (part .entry))) ⌝ }
 {
     let byte = packed_byte(part, k);
-    expand_last(part, first + k * n, width - k * n, range, byte, table);
+    expand_last(part, first + k * n, width - k * n, n, byte, columns);
 }
 
 // A row: `part` starts with its packed pixels, and its columns go to `width` pixels from pixel `first` on.
-fn unpack_row(
-    part: &mut [u8],
-    first: usize,
-    width: usize,
-    n: usize,
-    range: usize,
-    table: &[[u8; 4]; 256],
-    pairs: &[[u8; 8]; 256],
-)
-    requires { ⌜ (n % 2 ≡ 0) × (1 ≤ n) × (n ≤ 8) × (1 ≤ range) × (range ≤ 16) × (1 ≤ width) × (4 * (first + width) ≤ length (now part)) ⌝ }
-    ensures { λ _. ⌜ ((e : Picture) → TableOf range e (now (table .entry)) → PairsOf range e (now (pairs .entry)) → now (part .exit) ≡ run pixelCells (given (rowOf range n e (pixels (now (part .entry))) first)) first width (now (part .entry))) ⌝ }
+fn unpack_row(part: &mut [u8], first: usize, width: usize, n: usize, columns: &[u8; 8192])
+    requires { ⌜ (n % 2 ≡ 0) × (1 ≤ n) × (n ≤ 8) × (1 ≤ width) × (4 * (first + width) ≤ length (now part)) ⌝ }
+    ensures { λ _. ⌜ ((u : ℕ) (e : Picture) → ColumnsOf u n e (now (columns .entry)) → now (part .exit) ≡ run pixelCells (given (rowOf u n e (pixels (now (part .entry))) first)) first width (now (part .entry))) ⌝ }
 {
     let k = (width + n - 1) / n - 1;
-    unpack_last(part, first, k, width, n, range, table);
-    unpack_pixels(part, first, k, n, range, pairs);
+    unpack_last(part, first, k, width, n, columns);
+    unpack_pixels(part, first, k, n, columns);
 }
 
 // The pixel that packed pixel i stands for, where it is an index itself.
@@ -230,17 +217,17 @@ fn unpack_band(
     width: usize,
     size: usize,
     table: &[[u8; 4]; 256],
-    pairs: &[[u8; 8]; 256],
+    columns: &[u8; 8192],
 )
     requires { ⌜ (1 ≤ width) × (4 * (first + width) ≤ length (now part)) × (16 < size → first ≡ 0) ⌝ }
-    ensures { λ _. ⌜ ((e : Picture) → TableOf 256 e (now (table .entry)) → (size ≤ 16 → PairsOf (range (perPixel size)) e (now (pairs .entry))) → now (part .exit) ≡ run pixelCells (given (rowOf (range (perPixel size)) (perPixel size) e (pixels (now (part .entry))) first)) first width (now (part .entry))) ⌝ }
+    ensures { λ _. ⌜ ((e : Picture) → TableOf 256 e (now (table .entry)) → (size ≤ 16 → ColumnsOf (range (perPixel size)) (perPixel size) e (now (columns .entry))) → now (part .exit) ≡ run pixelCells (given (rowOf (range (perPixel size)) (perPixel size) e (pixels (now (part .entry))) first)) first width (now (part .entry))) ⌝ }
 {
     if size <= 2 {
-        unpack_row(part, first, width, 8, 2, table, pairs);
+        unpack_row(part, first, width, 8, columns);
     } else if size <= 4 {
-        unpack_row(part, first, width, 4, 4, table, pairs);
+        unpack_row(part, first, width, 4, columns);
     } else if size <= 16 {
-        unpack_row(part, first, width, 2, 16, table, pairs);
+        unpack_row(part, first, width, 2, columns);
     } else {
         look_up_row(part, width, table);
     }
@@ -254,16 +241,16 @@ pub fn unpack_row_at(
     expanded: Expanded,
     size: usize,
     table: &[[u8; 4]; 256],
-    pairs: &[[u8; 8]; 256],
+    columns: &[u8; 8192],
 )
     requires { ⌜ (1 ≤ expanded .0) × (packed .0 ≡ packedWidth size (expanded .0)) × (4 * (y * expanded .0 + expanded .0) ≤ length (now image)) ⌝ }
-    ensures { λ _. ⌜ ((e : Picture) → TableOf 256 (entry size e) (now (table .entry)) → (size ≤ 16 → PairsOf (range (perPixel size)) (entry size e) (now (pairs .entry))) → now (image .exit) ≡ run pixelCells (given (unpacked (expanded .0) size e (pixels (now (image .entry))))) (y * expanded .0) (expanded .0) (now (image .entry))) ⌝ }
+    ensures { λ _. ⌜ ((e : Picture) → TableOf 256 (entry size e) (now (table .entry)) → (size ≤ 16 → ColumnsOf (range (perPixel size)) (perPixel size) (entry size e) (now (columns .entry))) → now (image .exit) ≡ run pixelCells (given (unpacked (expanded .0) size e (pixels (now (image .entry))))) (y * expanded .0) (expanded .0) (now (image .entry))) ⌝ }
 {
     let c = packed.0;
     let w = expanded.0;
     let a = 4 * (y * c);
     let b = 4 * (y * w + w);
-    unpack_band(&mut image[a..b], y * w - y * c, w, size, table, pairs);
+    unpack_band(&mut image[a..b], y * w - y * c, w, size, table, columns);
 }
 
 // The rows of a picture whose packed pixels hold several indices, from the bottom.
@@ -273,11 +260,19 @@ fn unpack_rows(image: &mut [u8], width: usize, height: usize, size: usize, table
     requires { ⌜ size ≤ 16 ⌝ }
     ensures { λ _. ⌜ ((e : Picture) → TableOf 256 (entry size e) table → now (image .exit) ≡ run pixelCells (given (unpacked width size e (pixels (now (image .entry))))) 0 (height * width) (now (image .entry))) ⌝ }
 {
-    let pairs = paired(table, index_range(size));
+    let columns = columns_of(table, per_pixel(size), index_range(size));
     let packed = packed_width(Expanded(width), size);
     let mut y = height;
     while 0 < y {
-        unpack_row_at(image, y - 1, packed, Expanded(width), size, &table, &pairs);
+        unpack_row_at(
+            image,
+            y - 1,
+            packed,
+            Expanded(width),
+            size,
+            &table,
+            &columns,
+        );
         y -= 1;
     }
 }
@@ -289,11 +284,11 @@ fn look_up_rows(image: &mut [u8], width: usize, height: usize, size: usize, tabl
     requires { ⌜ 16 < size ⌝ }
     ensures { λ _. ⌜ ((e : Picture) → TableOf 256 (entry size e) table → now (image .exit) ≡ run pixelCells (given (unpacked width size e (pixels (now (image .entry))))) 0 (height * width) (now (image .entry))) ⌝ }
 {
-    let pairs = no_pairs();
+    let columns = no_columns();
     let packed = packed_width(Expanded(width), size);
     let mut y = 0;
     while y < height {
-        unpack_row_at(image, y, packed, Expanded(width), size, &table, &pairs);
+        unpack_row_at(image, y, packed, Expanded(width), size, &table, &columns);
         y += 1;
     }
 }

@@ -6,7 +6,7 @@ use Prim.Native.Nat.{ℕ}
 use Rattle.format.specs.declared.Pixel.{Pixel}
 use Rattle.format.specs.Byte.{delta}
 use Rattle.format.specs.Pixel.{pixel, clear, each, each3}
-use Rattle.format.specs.Picture.{Picture, pixels, written, inOrder, block, writtenBytes}
+use Rattle.format.specs.Picture.{pixels, written, inOrder, block, writtenBytes}
 use Rattle.format.specs.Predictor.{predict, select, predicted, residuals, gained}
 use Rattle.format.specs.Color.{inverseColor, colorRebuilt}
 use Rattle.format.specs.SubtractGreen.{greenRebuilt}

@@ -64,10 +64,6 @@ module _ (again : Bool) (h n : ℕ) (s : Step) where
       go false false true true true p q r t u z = absurd (omega arith)
       go false false true true false p q r t u z = record { known = p; new = q; rightly = r; long = t; inside = u }
 
-  pub passed-taken : Passed again h n s → checked again h n s ≡ Taken s
-  unfolding checked
-  passed-taken p = rw (p .known, p .new, p .rightly, p .long, p .inside)
-
   -- what the table of kinds says of bits and size, and of the length
   fields : Passed again h n s → byKind (s .kind) (blocksTabled s) (blocksTabled s) (greenTabled s) (tableTabled s) ≡ true
   unfolding tabled
@@ -191,9 +187,6 @@ module _ (w h : ℕ) (cs : List ℕ) (n : ℕ) (valid : chainRefusal w h cs n �
         low = leb-true h 16384 (and-right (leb 1 h) (leb h 16384) b);
       }
 
-  pub valid-whole : length cs % 16 ≡ 0
-  valid-whole = eqb-true (length cs % 16) 0 (and-left (eqb (length cs % 16) 0) (leb (length cs) 64) (tests .1))
-
   pub valid-short : length cs ≤ 64
   valid-short = leb-true (length cs) 64 (and-right (eqb (length cs % 16) 0) (leb (length cs) 64) (tests .1))
 
@@ -205,9 +198,6 @@ module _ (w h : ℕ) (cs : List ℕ) (n : ℕ) (valid : chainRefusal w h cs n �
 
   valid-passed : (k : ℕ) → k < count cs → Passed (usedBefore cs k) h n (stepAt cs w k)
   valid-passed k l = records-passed cs w h n (count cs) k l valid-records
-
-  pub valid-taken : (k : ℕ) → k < count cs → checked (usedBefore cs k) h n (stepAt cs w k) ≡ Taken (stepAt cs w k)
-  valid-taken k l = passed-taken (usedBefore cs k) h n (stepAt cs w k) (valid-passed k l)
 
   pub valid-step : (k : ℕ) → k < count cs → ValidStep (stepAt cs w k) h n
   valid-step k l = passed-valid (usedBefore cs k) h n (stepAt cs w k) (valid-passed k l)

@@ -1,15 +1,14 @@
 -- How a row's buffer comes to hold a row, and how the row goes back into a picture.
 use mathlib.Core.List.{List}
-use mathlib.Core.Path.{_≡_, refl, ap, sym, _∙_}
+use mathlib.Core.Path.{_≡_, ap, sym, _∙_}
 use Prim.Native.Nat.{ℕ, _+_, _-_, _*_, _<_, _≤_}
 use native.Mathlib.Omega.{arith}
 use lib.ListN.{length}
 use Rattle.format.specs.declared.Pixel.{Pixel}
-use Rattle.format.specs.Picture.{Picture, byteAt, pixels}
-use Rattle.pixel.specs.Cells.{byteCells, pixelCells, Rule, run, given}
+use Rattle.format.specs.Picture.{Picture, pixels}
+use Rattle.pixel.specs.Cells.{pixelCells, Rule, run, given}
 use Rattle.pixel.specs.Held.{HoldsRow}
 use Rattle.pixel.proofs.Cells.{pixel-lawful, run-at, run-after}
-use Rattle.pixel.proofs.Channels.{pixels-bytes}
 use Rattle.pixel.proofs.Part.{back, part, pixels-part, part-back}
 
 -- by a rule that reads no pixel of the buffer but the one that it replaces
@@ -23,18 +22,6 @@ held-run h g y w xs ys e s l x u =
 -- row y of the picture that the buffer bs holds, in its part
 pub held-part : (y w : ℕ) (bs : List ℕ) → 4 * (y * w) + 4 * w ≤ length bs → HoldsRow (pixels bs) y w (part (y * w) w bs)
 held-part y w bs l = pixels-part (y * w) w bs l
-
--- bytes copied are pixels copied
-pub copy-pixels : (zs : List ℕ) (a : ℕ) (xs : List ℕ) (n : ℕ) → run byteCells (given (byteAt zs)) (4 * a) (4 * n) xs ≡ run pixelCells (given (pixels zs)) a n xs
-unfolding given pixels
-copy-pixels zs a xs n =
-    pixels-bytes (given (byteAt zs)) (given (pixels zs)) a xs n
-    (λ q l u ys k. record { red = refl; green = λ vs b c. refl; blue = λ vs b c. refl; alpha = λ vs b c. refl })
-
--- a copy of a row
-pub held-copy : (g : Picture) (y w : ℕ) (zs xs ys : List ℕ) → ys ≡ run pixelCells (given (pixels zs)) 0 w xs → HoldsRow g y w zs → 4 * w ≤ length xs → HoldsRow g y w ys
-unfolding given
-held-copy g y w zs xs ys e h l = held-run (given (pixels zs)) g y w xs ys e (λ p x u m. h x u) l
 
 -- a row copied into its part of a picture, which comes back as ys
 pub held-back : (g : Picture) (y w : ℕ) (zs xs ys : List ℕ) → ys ≡ run pixelCells (given (pixels zs)) 0 w (part (y * w) w xs) → HoldsRow g y w zs → 4 * (y * w) + 4 * w ≤ length xs

@@ -1,6 +1,6 @@
 -- The number and the bytes of `rebuild` at each of its returns.
 use mathlib.Core.List.{List}
-use mathlib.Core.Path.{_≡_, refl, sym, ap, _∙_}
+use mathlib.Core.Path.{_≡_, refl, sym, _∙_}
 use Prim.Native.Nat.{ℕ, _*_, _<_, _≤_}
 use native.Mathlib.Omega.{arith}
 use borrow.Author.Tests.{lt-leb}
@@ -9,7 +9,7 @@ use Rattle.format.specs.Picture.{pixels, written}
 use Rattle.format.specs.Chain.{stepAt, count}
 use Rattle.format.specs.Refusals.{chainRefusal}
 use Rattle.format.specs.Stages.{rebuilt}
-use Rattle.format.specs.Calls.{holds, rebuildAnswer, rebuildImage}
+use Rattle.format.specs.Calls.{rebuildAnswer, rebuildImage}
 use Rattle.format.proofs.Valid.{before-none, before-some}
 use Rattle.format.proofs.Calls.{rebuild-accepts, rebuildImage-accepted, rebuildImage-refused}
 

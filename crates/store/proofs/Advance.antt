@@ -1,7 +1,7 @@
 -- A row through one record, kind by kind.
 use mathlib.Core.List.{List}
-use mathlib.Core.Path.{_≡_, refl, sym, ap, _∙_}
-use Prim.Native.Nat.{ℕ, _+_, _-_, _*_, _<_, _≤_}
+use mathlib.Core.Path.{_≡_, refl, _∙_}
+use Prim.Native.Nat.{ℕ, _-_, _<_, _≤_}
 use native.Mathlib.Omega.{arith}
 use Rattle.format.specs.declared.Step.{Step}
 use Rattle.format.specs.Picture.{Picture, pixels}

@@ -2,18 +2,15 @@
 use mathlib.Core.Bool.{Bool, true, false, _&&_}
 use mathlib.Core.List.{List}
 use mathlib.Core.Path.{_≡_, refl, sym, ap, _∙_}
-use Prim.Native.Nat.{ℕ, zero, suc, _+_, _*_, _<_, _≤_}
+use Prim.Native.Nat.{ℕ, zero, suc, _*_, _<_, _≤_}
 use native.Mathlib.Nat.{mul-le-mul}
 use native.Mathlib.Omega.{arith}
 use borrow.Author.Tests.{le-leb, lt-leb}
-use lib.Dec.{leb}
 use lib.ListN.{length}
 use Rattle.format.specs.declared.Step.{Step}
-use Rattle.format.specs.Choice.{if_then_else_}
-use Rattle.format.specs.Picture.{pixels, written}
-use Rattle.format.specs.Sizes.{Sized}
-use Rattle.format.specs.Chain.{recordAt, narrowed, widthAt, stepAt, count}
-use Rattle.format.specs.Refusals.{chainRefusal, _before_, _unless_}
+use Rattle.format.specs.Picture.{pixels}
+use Rattle.format.specs.Chain.{narrowed, widthAt, stepAt, count}
+use Rattle.format.specs.Refusals.{chainRefusal}
 use Rattle.format.specs.Stages.{stored, accepts}
 use Rattle.format.specs.Calls.{holds, records, storeAnswer, storeStrip}
 use Rattle.format.proofs.Valid.{before-none, before-some, valid-sized, valid-count, valid-step, valid-once}

@@ -6,7 +6,7 @@ use Prim.Native.Nat.{ℕ, zero, suc, _+_, _-_, _*_, _<_, _≤_}
 use native.Mathlib.Nat.{add-mul, one-mul}
 use native.Mathlib.Decide.{decLt}
 use native.Mathlib.Omega.{arith}
-use lib.ListN.{length, take, drop, length-drop}
+use lib.ListN.{length, drop, length-drop}
 use Rattle.format.specs.declared.Step.{Step}
 use Rattle.format.specs.Picture.{Picture, pixels, written}
 use Rattle.format.specs.ColorTable.{hasEntry, accepted}
@@ -19,7 +19,7 @@ use Rattle.pixel.proofs.Part.{back, part}
 use Rattle.pixel.proofs.Held.{held-part, held-back}
 use Rattle.pixel.proofs.Given.{given-written}
 use Rattle.store.specs.Scratch.{Scratch}
-use Rattle.store.specs.Stage.{Above, widthAfter}
+use Rattle.store.specs.Stage.{widthAfter}
 use Rattle.store.proofs.Lent.{back-length, lent-length}
 use Rattle.store.proofs.Packed.{every-all, row-accepted}
 

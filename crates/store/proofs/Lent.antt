@@ -1,6 +1,6 @@
 -- Rows in parts of the scratch that were lent.
 use mathlib.Core.List.{List, _++_}
-use mathlib.Core.Path.{_≡_, refl, sym, ap, _∙_}
+use mathlib.Core.Path.{_≡_, sym, ap, _∙_}
 use Prim.Native.Nat.{ℕ, _+_, _-_, _*_, _<_, _≤_}
 use native.Mathlib.Nat.{zero-add}
 use native.Mathlib.Omega.{arith}
@@ -8,7 +8,6 @@ use lib.ListN.{length, take, drop, length-drop, length-append}
 use lib.Seq.{length-take-le}
 use Rattle.format.specs.Picture.{Picture, pixels, written}
 use Rattle.format.proofs.Written.{length-written, pixels-written}
-use Rattle.pixel.specs.Held.{HoldsRow}
 use Rattle.pixel.proofs.Part.{back, pixel-back, pixel-before, pixel-part}
 
 -- the length of the part from byte a up to byte b

@@ -2,20 +2,18 @@
 use mathlib.Core.Bool.{Bool, true, false, _&&_}
 use mathlib.Core.List.{List}
 use mathlib.Core.Path.{_≡_, refl, sym, subst, _∙_}
-use Prim.Native.Nat.{ℕ, zero, suc, _+_, _-_, _*_, _<_, _≤_}
+use Prim.Native.Nat.{ℕ, zero, suc, _+_, _-_, _<_, _≤_}
 use native.Mathlib.Nat.{le-refl}
 use native.Mathlib.Decide.{ℕ-discrete}
 use native.Mathlib.Omega.{arith}
 use Rattle.format.specs.declared.Step.{Step}
-use Rattle.format.specs.Picture.{Picture, pixels}
+use Rattle.format.specs.Picture.{Picture}
 use Rattle.format.specs.Sizes.{Sized}
-use Rattle.format.specs.Chain.{narrowed}
-use Rattle.format.specs.Stages.{forward, stored, takes, accepts}
+use Rattle.format.specs.Stages.{stored, takes, accepts}
 use Rattle.format.proofs.Choice.{and-left, and-right}
 use Rattle.format.proofs.ByKind.{takes-table, takes-other}
 use Rattle.format.proofs.Stages.{narrowed-fewer, narrowed-pos}
 use Rattle.pixel.specs.Held.{HoldsRow}
-use Rattle.store.specs.Scratch.{SameFirst}
 use Rattle.store.specs.Stage.{Takes, Advanced, Ready, Above, HintsFor, widthAfter}
 use Rattle.store.proofs.Packed.{row-accepted}
 

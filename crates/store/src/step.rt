@@ -13,12 +13,11 @@ ghost use Rattle.format.specs.Picture.{Picture, pixels};
 ghost use Rattle.format.specs.Predictor.{residuals};
 ghost use Rattle.format.specs.ColorTable.{packedWidth, accepted, packed as packedOf};
 ghost use Rattle.format.specs.Sizes.{Sized};
-ghost use Rattle.format.specs.Chain.{narrowed};
 ghost use Rattle.format.specs.ValidStep.{ValidStep};
-ghost use Rattle.format.specs.Stages.{partOf, forward};
+ghost use Rattle.format.specs.Stages.{partOf};
 ghost use Rattle.pixel.specs.Held.{HoldsRow};
 ghost use Rattle.color_table.specs.Pack.{Hints};
-ghost use Rattle.store.specs.Scratch.{Scratch, SameFirst};
+ghost use Rattle.store.specs.Scratch.{Scratch};
 ghost use Rattle.store.specs.Stage.{Takes, Advanced};
 
 // Residuals, from the row above and the row, which then is the row above of the next.

@@ -20,3 +20,6 @@ mod refusals;
 
 #[cfg(rust_source)]
 mod store;
+
+#[cfg(rust_source)]
+mod stack;

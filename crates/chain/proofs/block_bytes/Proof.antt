@@ -1,6 +1,4 @@
 -- `block_bytes` meets its contract.
-use mathlib.Core.Path.{ap}
-use Prim.Native.Nat.{ℕ, _*_}
 use borrow.Author.Needs.{needs}
 use native.Mathlib.Omega.{arith}
 use Rattle.chain.proofs.Tabled.{blocks-few}

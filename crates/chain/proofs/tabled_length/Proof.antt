@@ -1,7 +1,6 @@
 -- `tabled_length` meets its contract, kind by kind.
 use mathlib.Core.Path.{refl}
 use borrow.Author.Tests.{ne-eqb}
-use borrow.Author.Needs.{needs}
 use native.Mathlib.Omega.{arith}
 use Rattle.format.specs.Chain.{byKind}
 use Rattle.format.specs.Refusals.{tabledLength}

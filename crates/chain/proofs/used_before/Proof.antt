@@ -1,12 +1,8 @@
 -- `used_before` meets its contract: before each turn no record before j has the kind of record k.
 use mathlib.Core.Bool.{true}
 use mathlib.Core.Path.{_≡_, refl}
-use Prim.Native.Nat.{_≤_, _-_, _*_}
-use borrow.Author.Needs.{needs}
+use Prim.Native.Nat.{_≤_, _-_}
 use native.Mathlib.Omega.{arith}
-use lib.Dec.{eqb}
-use Rattle.format.specs.Choice.{every}
-use Rattle.format.specs.Picture.{byteAt}
 use Rattle.chain.proofs.Tabled.{Unused, unused-more, unused-not, unused-done}
 use Rattle.chain.proofs.used_before.Statement.{statement}
 use Rattle.chain.proofs.used_before.Tie as tie

@@ -19,20 +19,24 @@ pub fn judge(measured: &[Measured]) {
         &ratios(chains(), rebuilding),
     );
     judge_all(
-        "storing each whole chain takes at most 3 times its rebuilding",
+        "storing a class map by each whole chain takes at most 3 times its rebuilding",
         3.0,
-        &ratios(chains(), |line| line.times.storing / line.times.here),
+        &ratios(
+            chains().filter(|line| line.content == Content::ClassMap),
+            |line| line.times.storing / line.times.here,
+        ),
     );
     let storing = |colors| {
-        let table =
-            |line: &&Measured| line.table == Some(colors) && line.content == Content::ClassMap;
+        let table = |line: &&Measured| {
+            line.table == Some(colors) && line.materials == 2 && line.content == Content::ClassMap
+        };
         measured.iter().find(table).unwrap().times.storing
     };
     judge_all(
         "storing a class map through a table of 256 takes at most twice the time of one of 2",
         2.0,
         &[(
-            "tables of 256 and 2, class map".into(),
+            "one map of two materials, tables of 256 and of 2".into(),
             storing(256) / storing(2),
         )],
     );

@@ -20,6 +20,8 @@ pub struct Measured {
     pub single: bool,
     /// The size of the table, where it is the only record.
     pub table: Option<u16>,
+    /// How many of the table's colors the picture has.
+    pub materials: u16,
 }
 
 struct Line {
@@ -29,6 +31,7 @@ struct Line {
     /// One mode in all blocks; otherwise any that predicts in each.
     mode: Option<u8>,
     colors: u16,
+    materials: u16,
 }
 
 /// Measures all lines, and prints each as it is done.
@@ -37,7 +40,7 @@ pub fn measured(pictures: &Pictures, runs: usize) -> Vec<Measured> {
     println!("|---|---|---|---|---|---|---|");
     let mut measured = Vec::new();
     for line in lines() {
-        for content in [Content::Random, Content::ClassMap] {
+        for &content in line.contents() {
             let times = line.times(pictures, content, runs);
             print_line(&line.name, content, &times);
             measured.push(Measured {
@@ -47,6 +50,7 @@ pub fn measured(pictures: &Pictures, runs: usize) -> Vec<Measured> {
                 chain: line.kinds.len() > 1 || line.kinds == [COLOR_TABLE],
                 single: line.kinds.len() == 1,
                 table: (line.kinds == [COLOR_TABLE]).then_some(line.colors),
+                materials: line.materials,
             });
         }
     }
@@ -84,8 +88,13 @@ fn lines() -> Vec<Line> {
     lines.push(Line::new("subtract green".into(), &[SUBTRACT_GREEN], 0));
     for colors in COLORS {
         let line = Line::new(format!("table of {colors}"), &[COLOR_TABLE], 0);
-        lines.push(Line { colors, ..line });
+        lines.push(line.of(colors));
     }
+    let line = Line::new("table of 256, two in use".into(), &[COLOR_TABLE], 0);
+    lines.push(Line {
+        materials: 2,
+        ..line.of(256)
+    });
     for bits in BLOCK_BITS {
         let blocks = format!("blocks of {}", 1 << bits);
         let name = format!("subtract green + predictor + color, {blocks}");
@@ -93,7 +102,7 @@ fn lines() -> Vec<Line> {
         for colors in COLORS {
             let name = format!("table of {colors} + predictor, {blocks}");
             let line = Line::new(name, &[COLOR_TABLE, PREDICTOR], bits);
-            lines.push(Line { colors, ..line });
+            lines.push(line.of(colors));
         }
     }
     lines
@@ -107,6 +116,25 @@ impl Line {
             bits,
             mode: None,
             colors: PLAIN_COLORS,
+            materials: PLAIN_COLORS,
+        }
+    }
+
+    /// The same with a table of so many colors, all in use.
+    fn of(self, colors: u16) -> Self {
+        Self {
+            colors,
+            materials: colors,
+            ..self
+        }
+    }
+
+    /// A map of few of the table's colors is a class map.
+    fn contents(&self) -> &'static [Content] {
+        if self.materials < self.colors {
+            &[Content::ClassMap]
+        } else {
+            &[Content::Random, Content::ClassMap]
         }
     }
 
@@ -116,8 +144,10 @@ impl Line {
         let strip = if content == Content::Random && !self.kinds.contains(&COLOR_TABLE) {
             random.bytes(given.valid().strip_len())
         } else {
-            let palette = palette(self.colors);
-            let indices = pictures.indices(content, self.colors);
+            // The table's last colors: a scan would find them last.
+            let mut palette = palette(self.colors);
+            palette.reverse();
+            let indices = pictures.indices(content, self.materials);
             let colors = indices.into_iter().map(|index| palette[index]);
             let picture = colors.collect::<Vec<[u8; 4]>>().into_flattened();
             by_model(&given, &picture)

@@ -1,26 +1,25 @@
--- `expand_last` meets its contract: before each turn the pixels of the first k indices are there, and b holds the other indices.
+-- `expand_last` meets its contract: before each turn the first k columns are there.
 use mathlib.Core.Path.{_≡_, refl, _∙_}
-use Prim.Native.Nat.{_≤_, _-_, _/_, _^_}
+use Prim.Native.Nat.{ℕ, _+_, _-_, _*_, _≤_}
 use native.Mathlib.Omega.{arith}
-use native.Mathlib.Nat.{mod-lt}
 use borrow.Author.Needs.{needs}
 use lib.ListN.{length}
 use Rattle.format.specs.Picture.{Picture}
 use Rattle.pixel.specs.Cells.{pixelCells, run, given}
-use Rattle.color_table.specs.Table.{TableOf}
+use Rattle.color_table.specs.Table.{ColumnsOf}
 use Rattle.color_table.specs.Unpack.{spread}
 use Rattle.pixel.proofs.Given.{given-none, given-done}
-use Rattle.color_table.proofs.Rows.{digit-first, digit-next, spread-more}
+use Rattle.color_table.proofs.Rows.{columns-room, column-more}
 use Rattle.color_table.proofs.unpack.expand_last.Statement.{statement}
 use Rattle.color_table.proofs.unpack.expand_last.Tie as tie
 
 abbrev Inv-loop : tie.InvT-loop
-Inv-loop part₀ a count range byte table b₀ k₀ part b k =
-    (k ≤ count) × (length part ≡ length part₀) × (b ≡ byte / range ^ k)
-    × ((e : Picture) → TableOf range e table → part ≡ run pixelCells (given (spread range e byte a)) a k part₀)
+Inv-loop part₀ a count n byte columns from k₀ part k =
+    (k ≤ count) × (length part ≡ length part₀) × (byte * n + n ≤ 2048)
+    × ((u : ℕ) (e : Picture) → ColumnsOf u n e columns → part ≡ run pixelCells (given (spread u e byte a)) a k part₀)
 
 abbrev μ-loop : tie.MeasureT-loop
-μ-loop part₀ a count range byte table b₀ k₀ part b k = count - k
+μ-loop part₀ a count n byte columns from k₀ part k = count - k
 
 pub expand-last-spec : {M : Type 1} → statement M
 expand-last-spec =
@@ -28,25 +27,18 @@ expand-last-spec =
     (tie.spec
     Inv-loop
     μ-loop
-    (λ c. (omega arith, refl, digit-first _ _, (λ e h. given-none _ _ _)))
+    (λ c. let s = c .before in omega (arith, columns-room (s .args .byte) (s .args .n) (omega arith)))
+    (λ c. let s = c .before in let h = columns-room (s .args .byte) (s .args .n) (omega arith) in (omega arith, refl, omega arith, (λ u e h. given-none _ _ _)))
     (λ c. omega arith)
     (λ c. omega arith)
-    (λ c.
-    let s = c .before .before .before .before in
-    omega (arith, mod-lt (c .before .before .loop .b) {m = s .args .range} (s .pre .0)))
-    (λ c κs. search needs)
+    (λ c κs. omega arith)
     (λ c κs. omega arith)
     (λ c. omega arith)
     (λ c. omega arith)
-    (λ c. omega arith)
     (λ c.
-    let s = c .before .before .before .before .before .before .before .before in
-    let l = c .before .before .before .before .before .before .loop in
-    let p = c .before .before .put-pixel in (
-      omega arith,
-      p .kept .0 ∙ l .inv .1,
-      digit-next _ _ _ _ (l .inv .2),
-      (λ e h. spread-more _ e _ _ _ _ _ _ _ _ _ h (l .inv .3 e h) (l .inv .2) (c .before .before .before .entry-at .ensures) (p .ensures) (s .pre .0)),
-    ))
+    let l = c .before .before .before .before .before .before .before .loop in
+    let p = c .before .before .put-word in
+    let v = c .before .before .before .word-at in
+    (omega arith, p .kept .0 ∙ l .inv .1, l .inv .2, (λ u e h. column-more u e _ _ _ _ _ _ _ _ _ _ _ _ h (l .inv .3 u e h) (v .ensures) (p .ensures) (omega arith) (omega arith) refl refl refl)))
     (λ c. search needs)
-    (λ c e h. given-done _ _ _ _ _ _ (c .before .loop .inv .3 e h) (omega arith) (omega arith)))
+    (λ c u e h. given-done _ _ _ _ _ _ (c .before .loop .inv .3 u e h) (omega arith) (omega arith)))

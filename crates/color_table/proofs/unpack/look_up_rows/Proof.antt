@@ -15,12 +15,12 @@ use Rattle.color_table.proofs.unpack.look_up_rows.Statement.{statement}
 use Rattle.color_table.proofs.unpack.look_up_rows.Tie as tie
 
 abbrev Inv-loop : tie.InvT-loop
-Inv-loop image₀ width height size table pairs packed y₀ image y =
+Inv-loop image₀ width height size table columns packed y₀ image y =
     (y ≤ height) × (length image ≡ length image₀) × (packed .0 ≡ packedWidth size width)
     × ((e : Picture) → TableOf 256 (entry size e) table → image ≡ run pixelCells (given (unpacked width size e (pixels image₀))) 0 (y * width) image₀)
 
 abbrev μ-loop : tie.MeasureT-loop
-μ-loop image₀ width height size table pairs packed y₀ image y = height - y
+μ-loop image₀ width height size table columns packed y₀ image y = height - y
 
 pub look-up-rows-spec : {M : Type 1} → statement M
 look-up-rows-spec =

@@ -16,6 +16,6 @@ unpack-last-spec =
     (λ c. search needs)
     (λ c κs. search needs)
     (λ c. search needs)
-    (λ c e h.
+    (λ c u e h.
     let s = c .before .before .before .before .before .before .before in
-    row-part _ _ e _ (s .pre .0) _ _ _ _ _ (c .before .before .before .before .packed-byte .ensures .0) (c .before .before .expand-last .ensures e h) (omega arith)))
+    row-part _ _ e _ (s .pre .0) _ _ _ _ _ (c .before .before .before .before .packed-byte .ensures .0) (c .before .before .expand-last .ensures u e h) (omega arith)))

@@ -13,18 +13,18 @@ unpack-row-spec =
     (λ c. search needs)
     (λ c. search needs)
     (λ c. search needs)
-    (λ c. let s = c .before in ceiling-pos (s .args .width) (s .args .n) (s .pre .5) (s .pre .1))
+    (λ c. let s = c .before in ceiling-pos (s .args .width) (s .args .n) (s .pre .3) (s .pre .1))
     (λ c κs.
     let s = c .before .before in
-    let a = last-inside (s .args .width) (s .args .n) (s .pre .5) (s .pre .1) in
-    let b = last-reaches (s .args .width) (s .args .n) (s .pre .5) (s .pre .1) in
-    (omega arith, a, b, omega arith, omega arith, omega arith))
+    let a = last-inside (s .args .width) (s .args .n) (s .pre .3) (s .pre .1) in
+    let b = last-reaches (s .args .width) (s .args .n) (s .pre .3) (s .pre .1) in
+    (omega arith, a, b, omega arith, omega arith))
     (λ c κs.
     let s = c .before .before .before .before .before .before in
-    let a = last-inside (s .args .width) (s .args .n) (s .pre .5) (s .pre .1) in
+    let a = last-inside (s .args .width) (s .args .n) (s .pre .3) (s .pre .1) in
     let k = c .before .before .before .unpack-last .kept .0 in
-    (omega arith, omega arith, omega arith, omega arith, omega arith))
+    (omega arith, omega arith, omega arith, omega arith))
     (λ c. search needs)
-    (λ c e h k.
+    (λ c u e h.
     let s = c .before .before .before .before .before .before .before .before .before in
-    row-whole _ _ e _ (s .pre .1) _ _ _ _ _ (c .before .before .before .before .before .before .unpack-last .ensures e h) (c .before .before .unpack-pixels .ensures e k) (last-inside _ _ (s .pre .5) (s .pre .1))))
+    row-whole _ _ e _ (s .pre .1) _ _ _ _ _ (c .before .before .before .before .before .before .unpack-last .ensures u e h) (c .before .before .unpack-pixels .ensures u e h) (last-inside _ _ (s .pre .3) (s .pre .1))))

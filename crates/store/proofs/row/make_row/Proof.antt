@@ -2,7 +2,6 @@
 use mathlib.Core.Path.{_≡_, refl, sym, _∙_}
 use Prim.Native.Nat.{suc, _+_, _-_, _≤_}
 use native.Mathlib.Omega.{arith}
-use borrow.Author.Needs.{needs}
 use Rattle.format.specs.Picture.{pixels}
 use Rattle.format.specs.Stages.{stored}
 use Rattle.pixel.specs.Held.{HoldsRow}

@@ -1,10 +1,8 @@
 -- `start_row` meets its contract.
-use mathlib.Core.Path.{_≡_}
 use native.Mathlib.Omega.{arith}
 use borrow.Author.Needs.{needs}
 use Rattle.format.specs.Picture.{pixels}
 use Rattle.pixel.proofs.Blocks.{row-there}
-use Rattle.store.specs.Stage.{stepsIn}
 use Rattle.store.proofs.Copied.{first-row, part-room}
 use Rattle.store.proofs.First.{first-takes, first-width, started-first, started-none}
 use Rattle.store.proofs.Stages.{step-sized, after-fits}

@@ -3,7 +3,7 @@ use mathlib.Core.Path.{_≡_}
 use Prim.Native.Nat.{_+_, _-_}
 use native.Mathlib.Omega.{arith}
 use borrow.Author.Needs.{needs}
-use lib.ListN.{length, take, drop}
+use lib.ListN.{length}
 use Rattle.format.specs.Picture.{pixels}
 use Rattle.format.specs.ColorTable.{packed, packedWidth}
 use Rattle.format.specs.Stages.{partOf}

@@ -6,7 +6,6 @@ use borrow.Author.Needs.{needs}
 use Rattle.format.specs.Predictor.{residuals}
 use Rattle.format.specs.Stages.{partOf}
 use Rattle.chain.proofs.Parts.{part-blocks}
-use Rattle.store.proofs.Lent.{lent-length}
 use Rattle.store.proofs.Predicted.{behind, lent-behind, lent-above, back-row}
 use Rattle.store.proofs.step.predict_row.Statement.{statement}
 use Rattle.store.proofs.step.predict_row.Tie as tie

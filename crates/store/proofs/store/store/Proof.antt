@@ -1,5 +1,5 @@
 -- `store` meets its contract, test by test.
-use mathlib.Core.Path.{_≡_, sym, _∙_}
+use mathlib.Core.Path.{sym, _∙_}
 use native.Mathlib.Omega.{arith}
 use borrow.Author.Needs.{needs}
 use Rattle.store.proofs.Answers.{ready-of, last-of, strip-small, area-small, refused-chain, refused-picture, refused-strip, answered}

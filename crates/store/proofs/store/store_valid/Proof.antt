@@ -1,8 +1,6 @@
 -- `store_valid` meets its contract: acceptance decides, and is known before a row is written.
-use mathlib.Core.Path.{_≡_, refl, sym, _∙_}
-use native.Mathlib.Omega.{arith}
+use mathlib.Core.Path.{refl, sym, _∙_}
 use borrow.Author.Needs.{needs}
-use Rattle.format.specs.Stages.{accepts}
 use Rattle.store.proofs.Accepting.{hints-for}
 use Rattle.store.proofs.store.store_valid.Statement.{statement}
 use Rattle.store.proofs.store.store_valid.Tie as tie

@@ -3,7 +3,7 @@ use mathlib.Core.Bool.{Bool, true, false}
 use mathlib.Core.List.{List}
 use mathlib.Core.Path.{_≡_, refl, sym, ap, _∙_}
 use Prim.Native.Nat.{ℕ, zero, suc, _+_, _-_, _*_, _^_, _<_, _≤_}
-use native.Mathlib.Nat.{mul-assoc, mul-comm, one-mul, mod-eq-of-lt, div-eq-of-lt, mul-le-mul, mul-le-mul-right, suc-mul, add-mul, le-div-iff-mul-le}
+use native.Mathlib.Nat.{add-assoc, mul-assoc, mul-comm, one-mul, mod-eq-of-lt, div-eq-of-lt, mul-le-mul, mul-le-mul-right, suc-mul, add-mul, le-div-iff-mul-le}
 use native.Mathlib.Omega.{arith}
 use borrow.Author.Tests.{lt-ltb}
 use lib.Dec.{ltb}
@@ -165,3 +165,14 @@ bits-record w size g b e f v p q r s taken places two l =
     digit k i =
         let x : g * 8 + k < w = omega arith in
         rw (lt-ltb (g * 8 + k) w x, s) (sym (two-entries size e (f (g * 8 + k)) two (accepted-below size e f w (g * 8 + k) taken x)))
+
+-- eight bits are four and four more
+eight-digits : (g : ℕ → ℕ) → digits 2 4 g + 16 * digits 2 4 (λ k. g (4 + k)) ≡ digits 2 8 g
+unfolding digits
+eight-digits g = omega arith
+
+pub bits-eight : (v : Pixel) (f : Picture) (i x y : ℕ) → x ≡ digits 2 4 (differs v f i) → y ≡ digits 2 4 (differs v f (i + 4)) → x + 16 * y ≡ digits 2 8 (differs v f i)
+unfolding differs
+bits-eight v f i x y p q =
+    let e : digits 2 4 (differs v f (i + 4)) ≡ digits 2 4 (λ k. differs v f i (4 + k)) = digits-same 2 4 (differs v f (i + 4)) (λ k. differs v f i (4 + k)) (λ k l. ap (λ (n : ℕ). if equal v (f n) then 0 else 1) (add-assoc i 4 k)) in
+    rw (p, q, e) (eight-digits (differs v f i))

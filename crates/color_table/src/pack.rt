@@ -398,20 +398,28 @@ fn bit(zero: bool, weight: u32) -> u32
     if zero { 0 } else { weight }
 }
 
-// Whether each of the eight pixels from i on is not the table's first entry, as a byte.
-fn bits_of(row: &[u8], i: usize, first: u32) -> u32
-    requires { ⌜ 4 * (i + 8) ≤ length (now row) ⌝ }
-    ensures { λ r. ⌜ (r ≡ digits 2 8 (differs (unword first) (pixels (now (row .entry))) i)) × (r < 256) ⌝ }
+// Whether each of the four pixels from i on is not the table's first entry, as bits.
+fn four_bits(row: &[u8], i: usize, first: u32) -> u32
+    requires { ⌜ 4 * (i + 4) ≤ length (now row) ⌝ }
+    ensures { λ r. ⌜ (r ≡ digits 2 4 (differs (unword first) (pixels (now (row .entry))) i)) × (r < 16) ⌝ }
 {
     let mut b = 0;
     let mut weight = 1;
     let mut k = 0;
-    while k < 8 {
+    while k < 4 {
         b = b + bit(same(first, word_at(row, i + k)), weight);
         weight = weight * 2;
         k += 1;
     }
     b
+}
+
+// The same of eight pixels, as a byte: four at a time, which are one vector.
+fn bits_of(row: &[u8], i: usize, first: u32) -> u32
+    requires { ⌜ 4 * (i + 8) ≤ length (now row) ⌝ }
+    ensures { λ r. ⌜ (r ≡ digits 2 8 (differs (unword first) (pixels (now (row .entry))) i)) × (r < 256) ⌝ }
+{
+    four_bits(row, i, first) + 16 * four_bits(row, i + 4, first)
 }
 
 // The same where the table has two entries: a pixel that is not the first one is the second one, so that none is looked up.

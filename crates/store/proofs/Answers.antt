@@ -96,7 +96,7 @@ module _ (w h : ℕ) (cs ds picture strip : List ℕ) where
         ∙ rw (le-leb (4 * (h * w)) (length picture) room, le-leb (4 * (h * widthAt cs w (count cs))) (length strip) (rw (← of .width) fits), q) refl
 
     -- 21, or the strip
-    pub answered : (r : ℕ) (ys : List ℕ) → 4 * (h * w) ≤ length picture → 4 * (h * c .width) ≤ length strip → Stored (stepsIn (c .steps)) (c .count) (c .width) h ds picture strip r ys → Answered r ys
+    pub answered : (r : ℕ) (ys : List ℕ) → 4 * (h * w) ≤ length picture → 4 * (h * c .width) ≤ length strip → Stored (accepts (stepsIn (c .steps)) h ds (c .count) (pixels picture)) (h * c .width) (stored (stepsIn (c .steps)) ds (c .count) (pixels picture)) strip r ys → Answered r ys
     answered r ys room fits s = go (accepts (stepAt cs w) h ds (count cs) (pixels picture)) refl
       where
         steps-are : (k : ℕ) → k < count cs → stepsIn (c .steps) k ≡ stepAt cs w k

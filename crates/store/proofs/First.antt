@@ -15,7 +15,7 @@ use Rattle.format.proofs.Written.{pixels-written}
 use Rattle.pixel.specs.Held.{HoldsRow}
 use Rattle.pixel.proofs.Part.{part}
 use Rattle.pixel.proofs.Held.{held-part}
-use Rattle.store.specs.Stage.{Ready, Started, Above, widthAfter}
+use Rattle.store.specs.Stage.{Ready, Started, Above, Stored, widthAfter}
 use Rattle.store.proofs.Packed.{packed-in, row-accepted}
 use Rattle.store.proofs.Stages.{accepts-at}
 
@@ -68,13 +68,17 @@ unfolding stored
 none-stored steps h ds f t e = rw e refl
 
 -- a table alone
-module _ (steps : ℕ → Step) (count w : ℕ) (ds : List ℕ) (f : Picture) (alone : count ≡ 1) where
-  pub alone-stored : stored steps ds count f ≡ forward (steps 0) ds f
+module _ (steps : ℕ → Step) (count w h : ℕ) (ds : List ℕ) (f : Picture) (alone : count ≡ 1) where
+  alone-stored : stored steps ds count f ≡ forward (steps 0) ds f
   unfolding stored
   alone-stored = rw alone refl
+
+  alone-accepts : accepts steps h ds count f ≡ takes (steps 0) h ds f
+  unfolding accepts stored
+  alone-accepts = rw alone refl
 
   pub alone-width : (last : ℕ) → last ≡ widthAfter steps w count → last ≡ narrowed (steps 0)
   alone-width last e = e ∙ ap (widthAfter steps w) alone
 
-pub alone-as : (n : ℕ) (g h : Picture) (xs ys : List ℕ) → ys ≡ written n h xs → g ≡ h → ys ≡ written n g xs
-alone-as n g h xs ys e q = e ∙ ap (λ (k : Picture). written n k xs) (sym q)
+  pub alone-as : (n r : ℕ) (strip ys : List ℕ) → Stored (takes (steps 0) h ds f) n (forward (steps 0) ds f) strip r ys → Stored (accepts steps h ds count f) n (stored steps ds count f) strip r ys
+  alone-as n r strip ys s = rw (alone-accepts, alone-stored) s

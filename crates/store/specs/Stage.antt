@@ -1,8 +1,8 @@
 -- A row on its way through the stages of a chain. y is its number, ds the data.
-use mathlib.Core.Bool.{true}
+use mathlib.Core.Bool.{Bool, true}
 use mathlib.Core.List.{List}
 use mathlib.Core.Path.{_≡_}
-use Prim.Native.Nat.{ℕ, zero, suc, _-_, _*_, _<_, _≤_}
+use Prim.Native.Nat.{ℕ, zero, suc, _-_, _<_, _≤_}
 use lib.ListN.{getD}
 use Rattle.format.specs.declared.Step.{Step}
 use Rattle.format.specs.Choice.{if_then_else_}
@@ -12,7 +12,7 @@ use Rattle.format.specs.Sizes.{Sized}
 use Rattle.format.specs.Chain.{narrowed}
 use Rattle.format.specs.Refusals.{_unless_}
 use Rattle.format.specs.ValidStep.{ValidStep}
-use Rattle.format.specs.Stages.{partOf, forward, stored, accepts}
+use Rattle.format.specs.Stages.{partOf, forward, stored}
 use Rattle.pixel.specs.Held.{HoldsRow}
 use Rattle.color_table.specs.Pack.{Hints}
 use Rattle.chain.specs.Reading.{noStep}
@@ -62,7 +62,7 @@ pub record Above (steps : ℕ → Step) (ds : List ℕ) (f : Picture) (count k y
 pub record HintsFor (steps : ℕ → Step) (count : ℕ) (ds hints : List ℕ) : Type 0 where
   pub found : (k : ℕ) → k < count → steps k .kind ≡ 3 → Hints (steps k .size) (partOf (steps k) ds) hints
 
--- what storing by the first `count` records answers, and the strip that it leaves: 21 and the strip as it was, or 0 and the picture stored
-pub record Stored (steps : ℕ → Step) (count last h : ℕ) (ds picture strip : List ℕ) (r : ℕ) (strip′ : List ℕ) : Type 0 where
-  pub answer : r ≡ (21 unless accepts steps h ds count (pixels picture))
-  pub bytes : strip′ ≡ (if accepts steps h ds count (pixels picture) then written (h * last) (stored steps ds count (pixels picture)) strip else strip)
+-- what storing answers, and the strip that it leaves: 0 and n records of g where it accepts, else 21 and the strip as it was
+pub record Stored (accepting : Bool) (n : ℕ) (g : Picture) (strip : List ℕ) (r : ℕ) (strip′ : List ℕ) : Type 0 where
+  pub answer : r ≡ (21 unless accepting)
+  pub bytes : strip′ ≡ (if accepting then written n g strip else strip)

@@ -45,7 +45,7 @@ pub fn hints_at(steps: [Step; 4], t: usize, count: usize, height: usize, data: &
 }
 
 // Whether each pixel of the picture has an entry, where the first record is a table.
-fn accept_first(s: Step, height: usize, data: &[u8], picture: &[u8], hints: &[u8]) -> bool
+pub fn accept_first(s: Step, height: usize, data: &[u8], picture: &[u8], hints: &[u8]) -> bool
     requires { ⌜ Sized (s .width) height × ValidStep s height (length (now «data»)) × (s .kind ≡ 3) ⌝ }
     requires { ⌜ Holds (s .width) height (now picture) × Hints (s .size) (partOf s (now «data»)) (now hints) ⌝ }
     ensures { λ r. ⌜ r ≡ takes s height (now («data» .entry)) (pixels (now (picture .entry))) ⌝ }

@@ -1,4 +1,5 @@
 // A whole picture, from its buffer into the strip's.
+use crate::accept::accept_first;
 use crate::accept::accept_picture;
 use crate::accept::hints_at;
 use crate::accept::table_at;
@@ -7,6 +8,7 @@ use crate::row::pack_first;
 use crate::rows::copy_pixels;
 use chain::Chain;
 use chain::read_chain;
+use color_table::pack::hints_of;
 use format::Step;
 ghost use mathlib.Core.Path.{_≡_};
 ghost use mathlib.Core.Bool.{true};
@@ -97,8 +99,32 @@ fn pack_rows(
     }
 }
 
-// The rows of an accepted picture, by whatever records.
-fn store_accepted(
+// Test 21, then the rows, by the table s alone.
+fn store_table(
+    s: Step,
+    last: usize,
+    height: usize,
+    data: &[u8],
+    picture: &[u8],
+    strip: &mut [u8],
+) -> u32
+    requires { ⌜ Sized (s .width) height × ValidStep s height (length (now «data»)) × (s .kind ≡ 3) × (last ≡ narrowed s) ⌝ }
+    requires { ⌜ Holds (s .width) height (now picture) × (4 * (height * last) ≤ length (now strip)) ⌝ }
+    ensures { λ r. ⌜ Stored (takes s height (now («data» .entry)) (pixels (now (picture .entry)))) (height * last) (forward s (now («data» .entry)) (pixels (now (picture .entry)))) (now (strip .entry)) r (now (strip .exit)) ⌝ }
+{
+    let from = s.offset;
+    let to = from + s.length;
+    let hints = hints_of(&data[from..to], s.size);
+    if accept_first(s, height, data, picture, &hints) {
+        pack_rows(s, last, height, data, picture, strip, &hints);
+        0
+    } else {
+        21
+    }
+}
+
+// Test 21, then the rows, by whatever records.
+fn store_steps(
     steps: [Step; 4],
     count: usize,
     width: usize,
@@ -107,49 +133,11 @@ fn store_accepted(
     data: &[u8],
     picture: &[u8],
     strip: &mut [u8],
-    row: &mut [u8],
-    rows: &mut [u8],
-    hints: &[u8],
-)
-    requires { ⌜ Ready (stepsIn steps) count width height (length (now «data»)) × HintsFor (stepsIn steps) count (now «data») (now hints) × Holds width height (now picture) ⌝ }
-    requires { ⌜ (accepts (stepsIn steps) height (now «data») count (pixels (now picture)) ≡ true) × (last ≡ widthAfter (stepsIn steps) width count) ⌝ }
-    requires { ⌜ Scratch (now row) (now rows) × (4 * (height * last) ≤ length (now strip)) ⌝ }
-    ensures { λ _. ⌜ now (strip .exit) ≡ written (height * last) (stored (stepsIn steps) (now («data» .entry)) count (pixels (now (picture .entry)))) (now (strip .entry)) ⌝ }
-{
-    if table_alone(steps, count) {
-        pack_rows(steps[0], last, height, data, picture, strip, hints);
-        return;
-    }
-    store_rows(
-        steps,
-        count,
-        width,
-        last,
-        height,
-        data,
-        picture,
-        strip,
-        row,
-        rows,
-        hints,
-    );
-}
-
-// Test 21, then the rows, by the records of a valid chain whose buffers have room.
-fn store_valid(
-    read: Chain,
-    width: usize,
-    height: usize,
-    data: &[u8],
-    picture: &[u8],
-    strip: &mut [u8],
 ) -> u32
-    requires { ⌜ Ready (stepsIn (read .steps)) (read .count) width height (length (now «data»)) × Holds width height (now picture) ⌝ }
-    requires { ⌜ (read .width ≡ widthAfter (stepsIn (read .steps)) width (read .count)) × (4 * (height * read .width) ≤ length (now strip)) ⌝ }
-    ensures { λ r. ⌜ Stored (stepsIn (read .steps)) (read .count) (read .width) height (now («data» .entry)) (now (picture .entry)) (now (strip .entry)) r (now (strip .exit)) ⌝ }
+    requires { ⌜ Ready (stepsIn steps) count width height (length (now «data»)) × Holds width height (now picture) ⌝ }
+    requires { ⌜ (last ≡ widthAfter (stepsIn steps) width count) × (4 * (height * last) ≤ length (now strip)) ⌝ }
+    ensures { λ r. ⌜ Stored (accepts (stepsIn steps) height (now («data» .entry)) count (pixels (now (picture .entry)))) (height * last) (stored (stepsIn steps) (now («data» .entry)) count (pixels (now (picture .entry)))) (now (strip .entry)) r (now (strip .exit)) ⌝ }
 {
-    let steps = read.steps;
-    let count = read.count;
     let mut row = [0u8; 65536];
     let mut rows = [0u8; 131072];
     let t = table_at(steps, count);
@@ -166,11 +154,11 @@ fn store_valid(
         &mut rows,
         &hints,
     ) {
-        store_accepted(
+        store_rows(
             steps,
             count,
             width,
-            read.width,
+            last,
             height,
             data,
             picture,
@@ -183,6 +171,36 @@ fn store_valid(
     } else {
         21
     }
+}
+
+// A valid chain whose buffers have room. A table alone wants no scratch rows.
+fn store_valid(
+    read: Chain,
+    width: usize,
+    height: usize,
+    data: &[u8],
+    picture: &[u8],
+    strip: &mut [u8],
+) -> u32
+    requires { ⌜ Ready (stepsIn (read .steps)) (read .count) width height (length (now «data»)) × Holds width height (now picture) ⌝ }
+    requires { ⌜ (read .width ≡ widthAfter (stepsIn (read .steps)) width (read .count)) × (4 * (height * read .width) ≤ length (now strip)) ⌝ }
+    ensures { λ r. ⌜ Stored (accepts (stepsIn (read .steps)) height (now («data» .entry)) (read .count) (pixels (now (picture .entry)))) (height * read .width) (stored (stepsIn (read .steps)) (now («data» .entry)) (read .count) (pixels (now (picture .entry)))) (now (strip .entry)) r (now (strip .exit)) ⌝ }
+{
+    let steps = read.steps;
+    let count = read.count;
+    if table_alone(steps, count) {
+        return store_table(steps[0], read.width, height, data, picture, strip);
+    }
+    store_steps(
+        steps,
+        count,
+        width,
+        read.width,
+        height,
+        data,
+        picture,
+        strip,
+    )
 }
 
 // Tests 1 to 8 and 21, then the rows.

@@ -1,7 +1,11 @@
--- `store_valid` meets its contract: acceptance decides, and is known before a row is written.
-use mathlib.Core.Path.{refl, sym, _∙_}
+-- `store_valid` meets its contract: a table alone is what its record makes.
+use Prim.Native.Nat.{_<_}
+use native.Mathlib.Omega.{arith}
 use borrow.Author.Needs.{needs}
-use Rattle.store.proofs.Accepting.{hints-for}
+use Rattle.format.specs.Picture.{pixels}
+use Rattle.store.specs.Stage.{stepsIn}
+use Rattle.store.proofs.First.{first-width, alone-width, alone-as}
+use Rattle.store.proofs.Stages.{step-sized}
 use Rattle.store.proofs.store.store_valid.Statement.{statement}
 use Rattle.store.proofs.store.store_valid.Tie as tie
 
@@ -9,26 +13,17 @@ pub store-valid-spec : {M : Type 1} → statement M
 store-valid-spec =
     tie.close
     (tie.spec
-    (λ c κs. c .before .before .before .before .pre .0 .0 .few)
-    (λ c κs. let t = c .table-at .ensures in (c .before .before .before .before .before .pre .0 .0 .few, (λ l. (t .1 l, c .before .before .before .before .before .pre .0 .0 .valid _ l))))
-    (λ c. search needs)
-    (λ c. search needs)
-    (λ c. search needs)
+    (λ c κs. search needs)
+    (λ c. omega arith)
     (λ c κs.
-    let p = c .before .before .before .before .before .before .before .before .before .pre in
-    let t = c .before .before .before .before .table-at .ensures in
-    ((p .0 .0, hints-for _ _ _ _ _ _ (p .0 .0) (t .1) _ _ (t .2) (c .before .before .before .hints-at .ensures), p .0 .1), (t, search needs)))
+    let p = c .before .before .before .before .before .before .before .before .pre in
+    let t = c .before .before .before .table-alone .ensures (c .before .before .if1 .taken) in
+    let l : 0 < c .before .before .before .before .before .before .before .before .args .read .count = omega (arith, t .0) in
+    let f = pixels (c .before .before .before .before .before .before .before .before .args .picture .now) in
+    let w = first-width _ _ _ _ _ (p .0 .0) (c .before .before .before .before .before .before .before .before .args .«data» .now) f l in
+    ((step-sized _ _ _ _ _ (p .0 .0) 0 l, p .0 .0 .valid 0 l, t .1, alone-width (stepsIn (c .before .before .before .before .before .before .before .before .args .read .steps)) _ (c .before .before .before .before .before .before .before .before .args .width) (c .before .before .before .before .before .before .before .before .args .height) (c .before .before .before .before .before .before .before .before .args .«data» .now) f (t .0) _ (p .1 .0)), (rw w (p .0 .1), p .1 .1)))
     (λ c. search needs)
+    (λ c. alone-as (stepsIn (c .before .before .before .before .before .before .before .before .before .before .before .args .read .steps)) _ (c .before .before .before .before .before .before .before .before .before .before .before .args .width) _ _ _ (c .before .before .before .before .before .before .table-alone .ensures (c .before .before .before .before .before .if1 .taken) .0) _ _ _ _ (c .before .before .store-table .ensures))
+    (λ c κs. search needs)
     (λ c. search needs)
-    (λ c. search needs)
-    (λ c κs.
-    let p = c .before .before .before .before .before .before .before .before .before .before .before .before .before .before .before .before .before .pre in
-    let t = c .before .before .before .before .before .before .before .before .before .before .before .before .table-at .ensures in
-    ((p .0 .0, hints-for _ _ _ _ _ _ (p .0 .0) (t .1) _ _ (t .2) (c .before .before .before .before .before .before .before .before .before .before .before .hints-at .ensures), p .0 .1), ((sym (c .before .before .before .before .before .before .before .accept-picture .ensures) ∙ c .before .before .before .before .if1 .taken, p .1 .0), (search needs, p .1 .1))))
-    (λ c. search needs)
-    (λ c.
-    let e = sym (c .before .before .before .before .before .before .before .before .before .before .before .before .accept-picture .ensures) ∙ c .before .before .before .before .before .before .before .before .before .if1 .taken in
-    record { answer = rw e refl; bytes = rw e (c .before .before .before .before .store-accepted .ensures) })
-    (λ c.
-    let e = sym (c .before .before .before .accept-picture .ensures) ∙ c .if1 .left in
-    record { answer = rw e refl; bytes = rw e refl }))
+    (λ c. search needs))

@@ -2,7 +2,8 @@
 use mathlib.Core.Bool.{Bool, true, false, _&&_}
 use mathlib.Core.List.{List}
 use mathlib.Core.Path.{_≡_, refl, sym, _∙_}
-use Prim.Native.Nat.{ℕ, _%_, _≤_, _<_}
+use Prim.Native.Nat.{ℕ, _*_, _%_, _≤_, _<_}
+use native.Mathlib.Nat.{mul-le-mul}
 use borrow.Author.Tests.{eq-eqb, ne-eqb, le-leb, lt-leb, leb-true}
 use lib.Dec.{leb, eqb}
 use lib.ListN.{length}
@@ -10,7 +11,7 @@ use Rattle.format.specs.Sizes.{Sized}
 use Rattle.format.specs.Refusals.{inRange, recordsRefusal, chainRefusal}
 use Rattle.format.specs.Chain.{count}
 use Rattle.format.proofs.Choice.{and-left, and-right, and-both}
-use Rattle.format.proofs.Valid.{chain-unsized, chain-broken, chain-records}
+use Rattle.format.proofs.Valid.{chain-unsized, chain-broken, chain-records, valid-sized}
 use Rattle.chain.specs.declared.Chain.{Chain}
 use Rattle.chain.specs.Reading.{ReadsAs}
 
@@ -57,3 +58,7 @@ module _ (w h : ℕ) (cs : List ℕ) (n : ℕ) where
 -- the same reading under an equal number
 pub reads-same : (m n w : ℕ) (cs : List ℕ) (c : Chain) → m ≡ n → ReadsAs n w cs c → ReadsAs m w cs c
 reads-same m n w cs c e r = (r .0 ∙ sym e, λ z. r .1 (sym e ∙ z))
+
+-- a picture's pixels can be counted
+pub area-small : (w h n : ℕ) (cs : List ℕ) → chainRefusal w h cs n ≡ 0 → h * w ≤ 16384 * 16384
+area-small w h n cs valid = let s = valid-sized w h cs n valid in mul-le-mul (s .low) (s .narrow)

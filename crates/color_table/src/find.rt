@@ -16,7 +16,7 @@ pub fn same(a: u32, b: u32) -> bool
 }
 
 // The lowest index whose entry equals w, by looking at each; `size` where there is none.
-pub fn scan(entries: &[u8], size: usize, w: u32) -> usize
+fn scan(entries: &[u8], size: usize, w: u32) -> usize
     requires { ⌜ 4 * size ≤ length (now entries) ⌝ }
     ensures { λ r. ⌜ r ≡ indexOf size (pixels (now (entries .entry))) (unword w) ⌝ }
 {
@@ -44,7 +44,7 @@ fn second_slot(w: u32) -> usize
 }
 
 // The first slot, where it is free: it holds index 0, which a scan finds at once.
-pub fn free_slot(hints: &[u8], w: u32) -> usize
+fn free_slot(hints: &[u8], w: u32) -> usize
     requires { ⌜ length (now hints) ≡ 4096 ⌝ }
     ensures { λ r. ⌜ r < 4096 ⌝ }
 {
@@ -55,7 +55,7 @@ pub fn free_slot(hints: &[u8], w: u32) -> usize
     second_slot(w)
 }
 
-pub fn no_hints(entries: &[u8], size: usize) -> [u8; 4096]
+fn no_hints(entries: &[u8], size: usize) -> [u8; 4096]
     requires { ⌜ 1 ≤ size ⌝ }
     ensures { λ r. ⌜ Hints size (pixels (now (entries .entry))) r ⌝ }
 {
@@ -76,4 +76,20 @@ pub fn find(entries: &[u8], size: usize, hints: &[u8], w: u32) -> usize
         return j;
     }
     scan(entries, size, w)
+}
+
+// Where entries are looked up: made once a picture.
+pub fn hints_of(entries: &[u8], size: usize) -> [u8; 4096]
+    requires { ⌜ (1 ≤ size) × (size ≤ 256) × (4 * size ≤ length (now entries)) ⌝ }
+    ensures { λ r. ⌜ Hints size (pixels (now (entries .entry))) r ⌝ }
+{
+    let mut hints = no_hints(entries, size);
+    let mut i = 0;
+    while i < size {
+        let w = word_at(entries, i);
+        let s = free_slot(&hints, w);
+        hints[s] = scan(entries, size, w) as u8;
+        i += 1;
+    }
+    hints
 }

@@ -1,17 +1,15 @@
-// Storing: pixels to indices, and indices packed into records of a strip. Pictures are runs of few colors, so that eight pixels at a time are compared
-// with the one before them, and looked up only where they differ.
+// Storing: accepted pixels to indices, packed into records of a strip. Eight pixels at a time are compared with the one before them, and looked up only where
+// they differ.
+use crate::accept::eight_of;
+use crate::bits::bits_of;
 use crate::find::find;
-use crate::find::free_slot;
-use crate::find::no_hints;
-use crate::find::same;
-use crate::find::scan;
 use crate::unpack::Expanded;
 use pixel::word::join;
 use pixel::word::put_word;
 use pixel::word::word_at;
 ghost use mathlib.Core.Path.{_≡_};
 ghost use mathlib.Core.Bool.{true};
-ghost use Prim.Native.Nat.{_+_, _-_, _*_, _/_, _%_, _<_, _≤_};
+ghost use Prim.Native.Nat.{_+_, _-_, _*_, _/_, _<_, _≤_};
 ghost use lib.ListN.{length};
 ghost use Rattle.format.specs.Choice.{if_then_else_};
 ghost use Rattle.format.specs.Pixel.{pixel};
@@ -19,97 +17,7 @@ ghost use Rattle.format.specs.Picture.{pixels, written};
 ghost use Rattle.format.specs.ColorTable.{packedWidth, accepted, digits, packed as packedOf};
 ghost use Rattle.pixel.specs.Cells.{pixelCells, run, given};
 ghost use Rattle.pixel.specs.Word.{unword};
-ghost use Rattle.color_table.specs.Pack.{Hints, Table, EachOf, Row, rowIndices, differs, uniform, plain, Filled};
-
-// Where entries are looked up: made once a picture.
-pub fn hints_of(entries: &[u8], size: usize) -> [u8; 4096]
-    requires { ⌜ (1 ≤ size) × (size ≤ 256) × (4 * size ≤ length (now entries)) ⌝ }
-    ensures { λ r. ⌜ Hints size (pixels (now (entries .entry))) r ⌝ }
-{
-    let mut hints = no_hints(entries, size);
-    let mut i = 0;
-    while i < size {
-        let w = word_at(entries, i);
-        let s = free_slot(&hints, w);
-        hints[s] = scan(entries, size, w) as u8;
-        i += 1;
-    }
-    hints
-}
-
-// Whether each of the eight pixels from i on is a or b: with no branch, so that they are compared at once.
-fn eight_of(row: &[u8], i: usize, a: u32, b: u32) -> bool
-    requires { ⌜ 4 * (i + 8) ≤ length (now row) ⌝ }
-    ensures { λ r. ⌜ (r ≡ true → EachOf (unword a) (unword b) (pixels (now (row .entry))) i 8) ⌝ }
-{
-    let mut all = true;
-    let mut k = 0;
-    while k < 8 {
-        let w = word_at(row, i + k);
-        all = all & (same(w, a) | same(w, b));
-        k += 1;
-    }
-    all
-}
-
-// Whether each of the first `to` pixels has an entry, where those before `from` have.
-fn accept_each(
-    row: &[u8],
-    from: usize,
-    to: usize,
-    entries: &[u8],
-    size: usize,
-    hints: &[u8],
-) -> bool
-    requires { ⌜ Table size (now entries) (now hints) ⌝ }
-    requires { ⌜ (from ≤ to) × (4 * to ≤ length (now row)) ⌝ }
-    requires { ⌜ accepted size (pixels (now entries)) from (pixels (now row)) ≡ true ⌝ }
-    ensures { λ r. ⌜ r ≡ accepted size (pixels (now (entries .entry))) to (pixels (now (row .entry))) ⌝ }
-{
-    let mut i = from;
-    while i < to {
-        if size <= find(entries, size, hints, word_at(row, i)) {
-            return false;
-        }
-        i += 1;
-    }
-    true
-}
-
-// The same from the first one on, by eight. a and b are the last two colors; at first they are entries, so that two colors are never looked up.
-fn accept_eights(row: &[u8], count: usize, entries: &[u8], size: usize, hints: &[u8]) -> bool
-    requires { ⌜ Table size (now entries) (now hints) ⌝ }
-    requires { ⌜ (count % 8 ≡ 0) × (4 * count ≤ length (now row)) ⌝ }
-    ensures { λ r. ⌜ r ≡ accepted size (pixels (now (entries .entry))) count (pixels (now (row .entry))) ⌝ }
-{
-    let mut a = word_at(entries, 0);
-    let mut b = word_at(entries, size - 1);
-    let mut i = 0;
-    while i < count {
-        if !eight_of(row, i, a, b) {
-            if !accept_each(row, i, i + 8, entries, size, hints) {
-                return false;
-            }
-            b = a;
-            a = word_at(row, i + 7);
-        }
-        i += 8;
-    }
-    true
-}
-
-// Whether each of the first `count` pixels has an entry.
-pub fn accept(row: &[u8], count: usize, entries: &[u8], size: usize, hints: &[u8]) -> bool
-    requires { ⌜ (1 ≤ size) × (size ≤ 256) × (4 * size ≤ length (now entries)) × (4 * count ≤ length (now row)) ⌝ }
-    requires { ⌜ Hints size (pixels (now entries)) (now hints) ⌝ }
-    ensures { λ r. ⌜ r ≡ accepted size (pixels (now (entries .entry))) count (pixels (now (row .entry))) ⌝ }
-{
-    let whole = count / 8 * 8;
-    if !accept_eights(row, whole, entries, size, hints) {
-        return false;
-    }
-    accept_each(row, whole, count, entries, size, hints)
-}
+ghost use Rattle.color_table.specs.Pack.{Hints, Table, Row, rowIndices, uniform, plain, Filled};
 
 fn record_of(b: u32) -> u32
     requires { ⌜ b < 256 ⌝ }
@@ -390,36 +298,6 @@ fn pack_eights(
             hints,
         );
     }
-}
-
-fn bit(zero: bool, weight: u32) -> u32
-    ensures { λ r. ⌜ r ≡ (if zero then 0 else weight) ⌝ }
-{
-    if zero { 0 } else { weight }
-}
-
-// Whether each of the four pixels from i on is not the table's first entry, as bits.
-fn four_bits(row: &[u8], i: usize, first: u32) -> u32
-    requires { ⌜ 4 * (i + 4) ≤ length (now row) ⌝ }
-    ensures { λ r. ⌜ (r ≡ digits 2 4 (differs (unword first) (pixels (now (row .entry))) i)) × (r < 16) ⌝ }
-{
-    let mut b = 0;
-    let mut weight = 1;
-    let mut k = 0;
-    while k < 4 {
-        b = b + bit(same(first, word_at(row, i + k)), weight);
-        weight = weight * 2;
-        k += 1;
-    }
-    b
-}
-
-// The same of eight pixels, as a byte: four at a time, which are one vector.
-fn bits_of(row: &[u8], i: usize, first: u32) -> u32
-    requires { ⌜ 4 * (i + 8) ≤ length (now row) ⌝ }
-    ensures { λ r. ⌜ (r ≡ digits 2 8 (differs (unword first) (pixels (now (row .entry))) i)) × (r < 256) ⌝ }
-{
-    four_bits(row, i, first) + 16 * four_bits(row, i + 4, first)
 }
 
 // The same where the table has two entries: a pixel that is not the first one is the second one, so that none is looked up.

@@ -2,7 +2,7 @@
 use mathlib.Core.List.{List}
 use mathlib.Core.Path.{_≡_, sym, ap, _∙_}
 use Prim.Native.Nat.{ℕ, suc, _*_, _<_, _≤_}
-use native.Mathlib.Nat.{mul-le-mul, mul-le-mul-left}
+use native.Mathlib.Nat.{mul-le-mul-left}
 use native.Mathlib.Omega.{arith}
 use lib.ListN.{length}
 use Rattle.format.specs.declared.Step.{Step}
@@ -64,7 +64,3 @@ module _ (w h n : ℕ) (cs : List ℕ) (valid : chainRefusal w h cs n ≡ 0) (j 
 -- kinds before record j
 pub known-before : (w h n : ℕ) (cs : List ℕ) → chainRefusal w h cs n ≡ 0 → (j : ℕ) → j < count cs → KnownKinds cs w j
 known-before w h n cs valid j l i u = valid-known w h cs n valid i (omega arith)
-
--- a picture's pixels can be counted
-pub area-small : (w h n r : ℕ) (cs : List ℕ) → r ≡ chainRefusal w h cs n → r ≡ 0 → h * w ≤ 16384 * 16384
-area-small w h n r cs e z = let s = valid-sized w h cs n (sym e ∙ z) in mul-le-mul (s .low) (s .narrow)

@@ -56,9 +56,6 @@ strip-small w h n cs c valid of =
     let x : c .width ≤ 16384 = let m = s .narrow in omega arith in
     mul-le-mul (s .low) x
 
-pub area-small : (w h n : ℕ) (cs : List ℕ) → chainRefusal w h cs n ≡ 0 → h * w ≤ 16384 * 16384
-area-small w h n cs valid = let s = valid-sized w h cs n valid in mul-le-mul (s .low) (s .narrow)
-
 -- answers
 
 and-false : (a b : Bool) → b ≡ false → (a && b) ≡ false

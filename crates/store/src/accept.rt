@@ -1,7 +1,7 @@
 // Whether storing accepts a picture: each pixel that reaches the table has an entry. No byte of the strip is written here.
 use crate::row::make_row;
-use color_table::pack::accept;
-use color_table::pack::hints_of;
+use color_table::accept::accept;
+use color_table::find::hints_of;
 use format::Step;
 ghost use mathlib.Core.Path.{_≡_};
 ghost use Prim.Native.Nat.{ℕ, _+_, _*_, _<_, _≤_};

@@ -8,7 +8,7 @@ use crate::row::pack_first;
 use crate::rows::copy_pixels;
 use chain::Chain;
 use chain::read_chain;
-use color_table::pack::hints_of;
+use color_table::find::hints_of;
 use format::Step;
 ghost use mathlib.Core.Path.{_≡_};
 ghost use mathlib.Core.Bool.{true};

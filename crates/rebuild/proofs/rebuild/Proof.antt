@@ -6,7 +6,8 @@ use borrow.Author.Needs.{needs}
 use lib.ListN.{length}
 use Rattle.format.specs.Chain.{count}
 use Rattle.format.proofs.Valid.{valid-sized, valid-count}
-use Rattle.rebuild.proofs.Turns.{Rebuilt, undo-turn, undo-done, step-sized, step-valid, step-holds, known-before, area-small}
+use Rattle.chain.proofs.Sizes.{area-small}
+use Rattle.rebuild.proofs.Turns.{Rebuilt, undo-turn, undo-done, step-sized, step-valid, step-holds, known-before}
 use Rattle.rebuild.proofs.Answers.{refused-chain, refused-short, accepted}
 use Rattle.rebuild.proofs.rebuild.Statement.{statement}
 use Rattle.rebuild.proofs.rebuild.Tie as tie
@@ -26,8 +27,8 @@ rebuild-spec =
     μ-loop
     (λ c κs. search needs)
     (λ c. refused-chain _ _ _ _ _ _ (c .before .before .read-chain .ensures .0) (c .if1 .taken))
-    (λ c. omega (arith, area-small _ _ _ _ _ (c .before .before .read-chain .ensures .0) (c .if1 .left)))
-    (λ c. omega (arith, area-small _ _ _ _ _ (c .before .before .read-chain .ensures .0) (c .if1 .left)))
+    (λ c. omega (arith, area-small _ _ _ _ (sym (c .before .before .read-chain .ensures .0) ∙ c .if1 .left)))
+    (λ c. omega (arith, area-small _ _ _ _ (sym (c .before .before .read-chain .ensures .0) ∙ c .if1 .left)))
     (λ c. refused-short _ _ _ _ _ _ (c .before .before .before .read-chain .ensures .0) (c .before .if1 .left) (c .if2 .taken))
     (λ c.
     let e = sym (c .before .before .before .before .read-chain .ensures .0) ∙ c .before .before .if1 .left in

@@ -2,7 +2,8 @@
 use mathlib.Core.Path.{sym, _∙_}
 use native.Mathlib.Omega.{arith}
 use borrow.Author.Needs.{needs}
-use Rattle.store.proofs.Answers.{ready-of, last-of, strip-small, area-small, refused-chain, refused-picture, refused-strip, answered}
+use Rattle.chain.proofs.Sizes.{area-small}
+use Rattle.store.proofs.Answers.{ready-of, last-of, strip-small, refused-chain, refused-picture, refused-strip, answered}
 use Rattle.store.proofs.store.store.Statement.{statement}
 use Rattle.store.proofs.store.store.Tie as tie
 

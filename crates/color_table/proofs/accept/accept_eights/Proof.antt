@@ -9,8 +9,8 @@ use Rattle.format.specs.Picture.{pixels}
 use Rattle.format.specs.ColorTable.{hasEntry, accepted}
 use Rattle.pixel.specs.Word.{unword}
 use Rattle.color_table.proofs.Index.{entry-accepted, taken-entry, accepted-each, accepted-fewer, accepted-done}
-use Rattle.color_table.proofs.pack.accept_eights.Statement.{statement}
-use Rattle.color_table.proofs.pack.accept_eights.Tie as tie
+use Rattle.color_table.proofs.accept.accept_eights.Statement.{statement}
+use Rattle.color_table.proofs.accept.accept_eights.Tie as tie
 
 abbrev Inv-loop : tie.InvT-loop
 Inv-loop row count entries size hints a₀ b₀ i₀ a b i =

@@ -6,8 +6,8 @@ use native.Mathlib.Omega.{arith}
 use Rattle.format.specs.Picture.{pixels}
 use Rattle.format.specs.ColorTable.{accepted}
 use Rattle.color_table.proofs.Index.{accepted-more, accepted-not, accepted-done}
-use Rattle.color_table.proofs.pack.accept_each.Statement.{statement}
-use Rattle.color_table.proofs.pack.accept_each.Tie as tie
+use Rattle.color_table.proofs.accept.accept_each.Statement.{statement}
+use Rattle.color_table.proofs.accept.accept_each.Tie as tie
 
 abbrev Inv-loop : tie.InvT-loop
 Inv-loop row from to entries size hints i₀ i = (i ≤ to) × (accepted size (pixels entries) i (pixels row) ≡ true)

@@ -5,8 +5,8 @@ use native.Mathlib.Omega.{arith}
 use borrow.Author.Needs.{needs}
 use borrow.Author.Tests.{not-true, not-false}
 use Rattle.color_table.proofs.Index.{accepted-fewer}
-use Rattle.color_table.proofs.pack.accept.Statement.{statement}
-use Rattle.color_table.proofs.pack.accept.Tie as tie
+use Rattle.color_table.proofs.accept.accept.Statement.{statement}
+use Rattle.color_table.proofs.accept.accept.Tie as tie
 
 pub accept-spec : {M : Type 1} → statement M
 accept-spec =

@@ -4,8 +4,8 @@ use native.Mathlib.Omega.{arith}
 use Rattle.format.specs.Picture.{pixels}
 use Rattle.color_table.specs.Pack.{Hints}
 use Rattle.color_table.proofs.Index.{hint-put, own-index}
-use Rattle.color_table.proofs.pack.hints_of.Statement.{statement}
-use Rattle.color_table.proofs.pack.hints_of.Tie as tie
+use Rattle.color_table.proofs.find.hints_of.Statement.{statement}
+use Rattle.color_table.proofs.find.hints_of.Tie as tie
 
 abbrev Inv-loop : tie.InvT-loop
 Inv-loop entries size hints₀ i₀ hints i = (i ≤ size) × Hints size (pixels entries) hints

@@ -10,8 +10,8 @@ use Rattle.pixel.specs.Word.{unword}
 use Rattle.color_table.specs.Pack.{differs}
 use Rattle.color_table.proofs.Digits.{digits-none, weight-more}
 use Rattle.color_table.proofs.Records.{bits-more, bits-small}
-use Rattle.color_table.proofs.pack.four_bits.Statement.{statement}
-use Rattle.color_table.proofs.pack.four_bits.Tie as tie
+use Rattle.color_table.proofs.bits.four_bits.Statement.{statement}
+use Rattle.color_table.proofs.bits.four_bits.Tie as tie
 
 abbrev Inv-loop : tie.InvT-loop
 Inv-loop row i first b₀ weight₀ k₀ b weight k =

@@ -2,8 +2,8 @@
 use native.Mathlib.Omega.{arith}
 use borrow.Author.Needs.{needs}
 use Rattle.color_table.proofs.Records.{bits-eight}
-use Rattle.color_table.proofs.pack.bits_of.Statement.{statement}
-use Rattle.color_table.proofs.pack.bits_of.Tie as tie
+use Rattle.color_table.proofs.bits.bits_of.Statement.{statement}
+use Rattle.color_table.proofs.bits.bits_of.Tie as tie
 
 pub bits-of-spec : {M : Type 1} → statement M
 bits-of-spec =

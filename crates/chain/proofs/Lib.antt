@@ -2,3 +2,4 @@ pub mod Tabled
 pub mod Records
 pub mod Sizes
 pub mod Parts
+pub mod Ready

@@ -1,21 +1,23 @@
 -- Laws of the calls on chains: which numbers they answer, when they accept, and what the buffer holds then.
-use mathlib.Core.Bool.{Bool, true, false, _&&_}
+use mathlib.Core.Bool.{Bool, true, false, not, _&&_}
 use mathlib.Core.List.{List}
 use mathlib.Core.Logic.{_⊎_, inl, inr}
 use mathlib.Core.Path.{_≡_, refl}
-use Prim.Native.Nat.{ℕ, zero, suc, _*_, _≤_}
+use Prim.Native.Nat.{ℕ, zero, suc, _*_, _<_, _≤_}
 use native.Mathlib.Omega.{arith}
-use borrow.Author.Tests.{leb-true, le-leb, ne-eqb}
+use borrow.Author.Tests.{leb-true, le-leb, lt-leb, ne-eqb}
 use lib.Dec.{eqb, lit≤}
 use lib.ListN.{length}
 use Rattle.format.specs.Choice.{if_then_else_}
 use Rattle.format.specs.declared.Checked.{Checked}
 use Rattle.format.specs.declared.Checked.the-variants.{Taken, UnknownKind, KindAgain, NotTabled, WrongLength, BeyondData}
+use Rattle.format.specs.declared.Pixel.{Pixel}
 use Rattle.format.specs.Picture.{pixels, written}
 use Rattle.format.specs.Chain.{stepAt, count}
 use Rattle.format.specs.Refusals.{usedBefore, checked, number, _unless_, _before_, recordsRefusal, inRange, wholeRecords, chainRefusal}
 use Rattle.format.specs.Stages.{stored, rebuilt, accepts}
-use Rattle.format.specs.Calls.{holds, records, rebuildAnswer, rebuildImage, storeAnswer, storeStrip}
+use Rattle.format.specs.Retouch.{unmade}
+use Rattle.format.specs.Calls.{holds, records, rebuildAnswer, rebuildImage, storeAnswer, storeStrip, inside, touched, newPicture, retouchAnswer, retouchPicture, retouchStrip}
 use Rattle.format.proofs.Choice.{and-left, and-right, and-both}
 use Rattle.format.proofs.Valid.{before-zero, unless-zero}
 
@@ -125,3 +127,25 @@ module _ (w h : ℕ) (cs ds : List ℕ) where
     pub storeStrip-refused : (storeAnswer w h cs ds picture strip ≡ 0 → ⊥) → storeStrip w h cs ds picture strip ≡ strip
     unfolding storeStrip
     storeStrip-refused n = rw (ne-eqb (storeAnswer w h cs ds picture strip) 0 n)
+
+  -- retouching
+
+  module _ (picture strip : List ℕ) (x y : ℕ) (v : Pixel) where
+    pub retouchAnswer-listed : (retouchAnswer w h cs ds picture strip x y v ≤ 9) ⊎ ((retouchAnswer w h cs ds picture strip x y v ≡ 22) ⊎ (256 ≤ retouchAnswer w h cs ds picture strip x y v))
+    unfolding retouchAnswer
+    retouchAnswer-listed =
+        let m = chainRefusal-most w h cs (length ds) in
+        before-is Listed refusal _ (inl (omega arith))
+        (before-is Listed (8 unless rooms picture strip) _ (unless-is Listed 8 (rooms picture strip) (inl (lit≤ tt)) (inl (lit≤ tt)))
+        (before-is Listed (9 unless inside w h x y) _ (unless-is Listed 9 (inside w h x y) (inl (lit≤ tt)) (inl (lit≤ tt)))
+        (before-is Listed (22 unless not refused) _ (unless-is Listed 22 (not refused) (inl (lit≤ tt)) (inr (inl refl))) (inr (inr (omega arith))))))
+      where
+        Listed : ℕ → Type 0
+        Listed r = (r ≤ 9) ⊎ ((r ≡ 22) ⊎ (256 ≤ r))
+
+        refused : Bool
+        refused = unmade (stepAt cs w) ds (count cs) (records w h cs) (newPicture w h cs ds picture strip x y v) (touched w cs x y)
+
+    pub retouch-refused : retouchAnswer w h cs ds picture strip x y v < 256 → (retouchPicture w h cs ds picture strip x y v ≡ picture) × (retouchStrip w h cs ds picture strip x y v ≡ strip)
+    unfolding retouchPicture retouchStrip
+    retouch-refused l = let e = lt-leb 256 (retouchAnswer w h cs ds picture strip x y v) l in (rw e refl, rw e refl)

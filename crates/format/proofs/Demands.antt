@@ -1,21 +1,31 @@
--- Demands 1 and 2 of document 00, on the bytes of the calls that rebuild and store by a chain. The statements come first, the proofs below.
-use mathlib.Core.List.{List}
+-- The demands of document 00, on the bytes of the calls that rebuild, store and retouch by a chain. The statements come first, the proofs below.
+use mathlib.Core.Bool.{Bool, true, _&&_}
+use mathlib.Core.List.{List, []}
 use mathlib.Core.Logic.{_⊎_}
-use mathlib.Core.Path.{_≡_, ap, _∙_}
-use Prim.Native.Nat.{ℕ, _*_, _<_, _≤_}
+use mathlib.Core.Path.{_≡_, refl, sym, ap, _∙_}
+use Prim.Native.Nat.{ℕ, _+_, _*_, _<_, _≤_}
+use native.Mathlib.Nat.{le-trans}
+use lib.Dec.{leb}
 use lib.ListN.{length}
+use Rattle.format.specs.Indices.{howMany}
+use Rattle.format.specs.declared.Pixel.{Pixel}
 use Rattle.format.specs.Picture.{Picture, byteAt, pixels, written}
 use Rattle.format.specs.Chain.{recordAt, stepAt, count}
 use Rattle.format.specs.Refusals.{chainRefusal}
-use Rattle.format.specs.Stages.{stored, rebuilt}
-use Rattle.format.specs.Calls.{records, rebuildAnswer, rebuildImage, storeAnswer, storeStrip}
+use Rattle.format.specs.Stages.{stored, rebuilt, accepts}
+use Rattle.format.specs.Retouch.{differ, marks, maskOf, answer}
+use Rattle.format.specs.Calls.{records, rebuildAnswer, rebuildImage, storeAnswer, storeStrip, inside, painted, touched, retouchAnswer, retouchPicture, retouchStrip}
+use Rattle.format.specs.Desk.{Retouch, Buffers, leftBy, answersTo, accepted, paintedWith, deskAnswer, deskHolds, callAnswer, callLeaves}
 use Rattle.format.proofs.Picture.{written-same}
 use Rattle.format.proofs.Written.{bytes-pixels, pixels-written}
 use Rattle.format.proofs.Inside.{Alike}
 use Rattle.format.proofs.Stages.{stored-same, rebuilt-same}
 use Rattle.format.proofs.Valid.{valid-sized, valid-known}
 use Rattle.format.proofs.Chains.{chain-stored, chain-rebuilt, widthAt-untabled, accepts-untabled}
-use Rattle.format.proofs.Calls.{rebuildAnswer-most, rebuild-accepts, rebuild-accepted, rebuildImage-accepted, rebuildImage-refused, storeAnswer-listed, store-accepts, store-accepted, storeStrip-accepted, storeStrip-refused}
+use Rattle.format.proofs.Calls.{rebuildAnswer-most, rebuild-accepts, rebuild-accepted, rebuildImage-accepted, rebuildImage-refused, storeAnswer-listed, store-accepts, store-accepted, storeStrip-accepted, storeStrip-refused, retouchAnswer-listed, retouch-refused}
+use Rattle.format.proofs.Marks.{marks-length, mask-small}
+use Rattle.format.proofs.Spots.{spots-few}
+use Rattle.format.proofs.Retouching.{Matched, same-answer, accepts-exactly, few-moved, count-moved, listed, desk-painted}
 
 -- a buffer of bytes
 abbrev pub AreBytes : List ℕ → Type 0
@@ -55,6 +65,50 @@ module _ (w h : ℕ) (cs ds : List ℕ) where
   StoresRebuilt = (image picture strip : List ℕ) → AreBytes image → NoTable cs
       → rebuildAnswer w h cs ds image ≡ 0 → 4 * (h * w) ≤ length picture → 4 * (h * w) ≤ length strip → SameFront (h * w) picture (rebuildImage w h cs ds image)
       → (storeAnswer w h cs ds picture strip ≡ 0) × (storeStrip w h cs ds picture strip ≡ written (h * w) (pixels image) strip)
+
+  -- demand 1, of retouching
+  abbrev pub RetouchingAnswers : Type 0
+  RetouchingAnswers = (picture strip : List ℕ) (x y : ℕ) (v : Pixel)
+      → (retouchAnswer w h cs ds picture strip x y v ≤ 9) ⊎ ((retouchAnswer w h cs ds picture strip x y v ≡ 22) ⊎ (256 ≤ retouchAnswer w h cs ds picture strip x y v))
+
+  abbrev pub RetouchingRefused : Type 0
+  RetouchingRefused = (picture strip : List ℕ) (x y : ℕ) (v : Pixel) → retouchAnswer w h cs ds picture strip x y v < 256
+      → (retouchPicture w h cs ds picture strip x y v ≡ picture) × (retouchStrip w h cs ds picture strip x y v ≡ strip)
+
+  -- demand 3: a valid chain, a picture that storing accepts, and the strip that storing makes of it
+  abbrev pub StoredPair : Buffers → Type 0
+  StoredPair b = (storeAnswer w h cs ds (b .picture) (b .strip) ≡ 0) × (storeStrip w h cs ds (b .picture) (b .strip) ≡ b .strip)
+
+  -- how many records of the strip differ before and after a call
+  abbrev pub changedBy : Buffers → Retouch → ℕ
+  changedBy b c = howMany (records w h cs) (differ (records w h cs) (pixels (b .strip)) (pixels (callLeaves w h cs ds b c .strip)))
+
+  -- a call is accepted exactly when its point is inside and storing accepts the picture with it painted; it changes at most five records, and its count is how many
+  pub record OneCall (b : Buffers) (c : Retouch) : Type 0 where
+    pub exactly : leb 256 (callAnswer w h cs ds b c)
+        ≡ (inside w h (c .x) (c .y) && accepts (stepAt cs w) h ds (count cs) (painted w (pixels (b .picture)) (c .x) (c .y) (c .color)))
+    pub few : changedBy b c ≤ 5
+    pub counted : leb 256 (callAnswer w h cs ds b c) ≡ true → (mask : ℕ) × (mask < 32) × (callAnswer w h cs ds b c ≡ answer (changedBy b c) mask)
+
+  module _ (b : Buffers) (calls : List Retouch) where
+    abbrev answered : List ℕ
+    answered = answersTo (callAnswer w h cs ds) (callLeaves w h cs ds) b calls
+
+    abbrev left : Buffers
+    left = leftBy (callLeaves w h cs ds) b calls
+
+    -- after a list of calls: every answer is the desk's; the picture is the first one with the accepted retouches painted in order, which is the desk's; the strip is
+    -- that picture stored afresh; bytes beyond are those of the start; and what holds of one call holds of whichever is next
+    pub record Retouched : Type 0 where
+      pub answers : answered ≡ answersTo (deskAnswer w h cs ds) (deskHolds w h cs ds) (pixels (b .picture)) calls
+      pub picture : left .picture ≡ written (h * w) (paintedWith w (pixels (b .picture)) (accepted answered calls)) (b .picture)
+      pub desk : left .picture ≡ written (h * w) (leftBy (deskHolds w h cs ds) (pixels (b .picture)) calls) (b .picture)
+      pub strip : left .strip ≡ storeStrip w h cs ds (left .picture) (b .strip)
+      pub next : (c : Retouch) → OneCall left c
+
+  -- demand 3: for every list of calls
+  abbrev pub RetouchesLikeDesk : Type 0
+  RetouchesLikeDesk = (b : Buffers) → StoredPair b → (calls : List Retouch) → Retouched b calls
 
 -- proofs
 
@@ -124,3 +178,57 @@ module _ (w h : ℕ) (cs ds : List ℕ) where
           stored-same cs w h ds (valid-sized w h cs (length ds) valid .wide) (count cs) (valid-known w h cs (length ds) valid) (pixels picture) f
           (front-written (h * w) f picture (rebuildImage w h cs ds image) image front (rebuildImage-accepted w h cs ds image e)) q (rw whole l)
           ∙ chain-rebuilt w h cs ds valid untabled (pixels image) (λ p m. bytes-pixels image bytes p) q l
+
+  pub retouching-answers : RetouchingAnswers w h cs ds
+  retouching-answers = retouchAnswer-listed w h cs ds
+
+  pub retouching-refused : RetouchingRefused w h cs ds
+  retouching-refused = retouch-refused w h cs ds
+
+  -- from a valid chain on
+  module _ (valid : chainRefusal w h cs (length ds) ≡ 0) where
+    matched : (b : Buffers) → StoredPair w h cs ds b → Matched w h cs ds b
+    matched b s =
+        let a = store-accepted w h cs ds (b .picture) (b .strip) (s .0) in
+        record {
+          room = a .1;
+          space = a .2;
+          taken = a .3;
+          stored = λ r l.
+              front-written (records w h cs) (stored (stepAt cs w) ds (count cs) (pixels (b .picture))) (b .strip) (b .strip) (b .strip)
+              (λ q m. refl) (sym (s .1) ∙ storeStrip-accepted w h cs ds (b .picture) (b .strip) (s .0)) r l;
+        }
+
+    one-call : (b : Buffers) (c : Retouch) → Matched w h cs ds b → OneCall w h cs ds b c
+    one-call b c m = record {
+      exactly = ap (leb 256) (same-answer w h cs ds valid b c m) ∙ accepts-exactly w h cs ds valid b c m;
+      few = le-trans (few-moved w h cs ds valid b c m) five;
+      counted = λ e. (maskOf marked, mask-small marked (rw (marks-length [] moved (touched w cs (c .x) (c .y))) five), count-moved w h cs ds valid b c m e);
+    }
+      where
+        five : length (touched w cs (c .x) (c .y)) ≤ 5
+        five = spots-few w h cs (length ds) valid (c .y * w + c .x)
+
+        moved : ℕ → Bool
+        moved = differ (records w h cs) (pixels (b .strip)) (pixels (callLeaves w h cs ds b c .strip))
+
+        marked : List Bool
+        marked = marks moved [] (touched w cs (c .x) (c .y))
+
+    restored : (picture strip : List ℕ) → 4 * (h * w) ≤ length picture → 4 * records w h cs ≤ length strip
+        → accepts (stepAt cs w) h ds (count cs) (pixels picture) ≡ true
+        → storeStrip w h cs ds picture strip ≡ written (records w h cs) (stored (stepAt cs w) ds (count cs) (pixels picture)) strip
+    restored picture strip room space taken = storeStrip-accepted w h cs ds picture strip (store-accepts w h cs ds picture strip valid room space taken)
+
+  pub retouches-like-desk : RetouchesLikeDesk w h cs ds
+  retouches-like-desk b s calls =
+      let valid = store-accepted w h cs ds (b .picture) (b .strip) (s .0) .0 in
+      let m = matched valid b s in
+      let l = listed w h cs ds valid calls b (pixels (b .picture)) refl m in
+      record {
+        answers = l .answers;
+        picture = l .picture ∙ ap (λ (f : Picture). written (h * w) f (b .picture)) (desk-painted w h cs ds calls (pixels (b .picture)) ∙ rw (← l .answers) refl);
+        desk = l .picture;
+        strip = l .strip ∙ rw (← l .read) (sym (restored valid (left w h cs ds b calls .picture) (b .strip) (l .matched .room) (m .space) (l .matched .taken)));
+        next = λ c. one-call valid (left w h cs ds b calls) c (l .matched);
+      }

@@ -5,7 +5,7 @@ use mathlib.Core.Path.{_≡_, refl}
 use Prim.Native.Nat.{ℕ}
 use Rattle.format.specs.declared.Pixel.{Pixel}
 use Rattle.format.specs.Byte.{delta}
-use Rattle.format.specs.Pixel.{pixel, clear, each, each3}
+use Rattle.format.specs.Pixel.{pixel, black, clear, each, each3}
 use Rattle.format.specs.Picture.{pixels, written, inOrder, block, writtenBytes}
 use Rattle.format.specs.Predictor.{predict, select, predicted, residuals, gained}
 use Rattle.format.specs.Color.{inverseColor, colorRebuilt}
@@ -15,7 +15,9 @@ use Rattle.format.specs.ColorMap.{adjusted, adjustColorMap}
 use Rattle.format.specs.Chain.{recordAt, byKind, narrowed, widthAt}
 use Rattle.format.specs.Refusals.{tabled, tabledLength, checked, recordsRefusal, chainRefusal}
 use Rattle.format.specs.Stages.{forward, backward, stored, rebuilt, takes, accepts}
-use Rattle.format.specs.Calls.{rebuildAnswer, rebuildImage, storeAnswer, storeStrip}
+use Rattle.format.specs.Made.{namedBy, named, columns, madeOf, takesItem, missing}
+use Rattle.format.specs.Retouch.{spotsOf, spotRecords, unmade, remade}
+use Rattle.format.specs.Calls.{rebuildAnswer, rebuildImage, storeAnswer, storeStrip, retouchAnswer, retouchPicture, retouchStrip}
 
 pub record Line : Type 0 where
   pub computed : List ℕ
@@ -56,6 +58,20 @@ spread = three ++ (0 ∷ 0 ∷ 0 ∷ 0 ∷ 3 ∷ 0 ∷ 0 ∷ 255 ∷ [])
 abbrev strip : List ℕ
 strip = 0 ∷ 228 ∷ 0 ∷ 255 ∷ 0 ∷ 254 ∷ 0 ∷ 255 ∷ 9 ∷ 9 ∷ 9 ∷ 9 ∷ 9 ∷ 9 ∷ 9 ∷ 9 ∷ 9 ∷ 9 ∷ 9 ∷ 9 ∷ []
 
+-- n pixels (0, 0, 0, 255), and as many records (0, 0, 0, 0)
+abbrev blacks : ℕ → List ℕ
+blacks n = written n (λ i. black) []
+
+abbrev zeros : ℕ → List ℕ
+zeros n = written n (λ i. clear) []
+
+-- the middle of three pixels painted, and the records of the new picture
+abbrev middle : List ℕ
+middle = 0 ∷ 0 ∷ 0 ∷ 255 ∷ 9 ∷ 0 ∷ 0 ∷ 255 ∷ 0 ∷ 0 ∷ 0 ∷ 255 ∷ []
+
+abbrev middleStored : List ℕ
+middleStored = 0 ∷ 0 ∷ 0 ∷ 0 ∷ 9 ∷ 0 ∷ 0 ∷ 0 ∷ 247 ∷ 0 ∷ 0 ∷ 0 ∷ []
+
 abbrev pub worked : List Line
 worked =
     -- 1 by 1, kind 0
@@ -89,8 +105,15 @@ worked =
     ∷ (storeStrip 5 1 (chainOf 3 0 3 12) three spread strip is strip)
     -- the color map
     ∷ (adjustColorMap (250 ∷ 0 ∷ 0 ∷ 255 ∷ 10 ∷ 1 ∷ 0 ∷ 0 ∷ []) is 250 ∷ 0 ∷ 0 ∷ 255 ∷ 4 ∷ 1 ∷ 0 ∷ 255 ∷ [])
+    -- kind 0, 3 by 1, the middle painted, and the same again
+    ∷ (retouchAnswer 3 1 predictor (mode 7) (blacks 3) (zeros 3) 1 0 (pixel 9 0 0 255) ∷ [] is 323 ∷ [])
+    ∷ (retouchPicture 3 1 predictor (mode 7) (blacks 3) (zeros 3) 1 0 (pixel 9 0 0 255) is middle)
+    ∷ (retouchStrip 3 1 predictor (mode 7) (blacks 3) (zeros 3) 1 0 (pixel 9 0 0 255) is middleStored)
+    ∷ (retouchAnswer 3 1 predictor (mode 7) middle middleStored 1 0 (pixel 9 0 0 255) ∷ [] is 256 ∷ [])
+    -- 4 by 2, mode 10
+    ∷ (retouchAnswer 4 2 predictor (mode 10) (blacks 8) (zeros 8) 2 0 (pixel 128 0 0 255) ∷ [] is 447 ∷ [])
     ∷ []
 
 pub known : map (λ (l : Line). l .computed) worked ≡ map (λ (l : Line). l .expected) worked
-unfolding each each3 pixels written inOrder residuals gained predicted block predict select delta inverseColor colorRebuilt greenRebuilt unpacked perPixel lowest digits packed adjustColorMap adjusted writtenBytes recordAt byKind narrowed widthAt tabled tabledLength checked recordsRefusal chainRefusal forward backward stored rebuilt takes accepts rebuildAnswer rebuildImage storeAnswer storeStrip
+unfolding each each3 pixels written inOrder residuals gained predicted block predict select delta inverseColor colorRebuilt greenRebuilt unpacked perPixel lowest digits packed adjustColorMap adjusted writtenBytes recordAt byKind narrowed widthAt tabled tabledLength checked recordsRefusal chainRefusal forward backward stored rebuilt takes accepts rebuildAnswer rebuildImage storeAnswer storeStrip namedBy named columns madeOf takesItem missing spotsOf spotRecords unmade remade retouchAnswer retouchPicture retouchStrip
 known = refl

@@ -1,5 +1,11 @@
 -- Laws about the definitions, a file for a file.
 pub mod Choice
+pub mod Indices
+pub mod Marks
+pub mod Locality
+pub mod Making
+pub mod Spots
+pub mod Retouching
 pub mod Byte
 pub mod Pixels
 pub mod Picture

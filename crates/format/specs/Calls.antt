@@ -1,14 +1,16 @@
--- What the calls on chains return and leave: the number, and every byte of the buffer that is lent to be written. A refusal changes no byte.
-use mathlib.Core.Bool.{Bool, _&&_}
-use mathlib.Core.List.{List}
-use Prim.Native.Nat.{ℕ, _*_}
-use lib.Dec.{eqb, leb}
+-- What the calls on chains return and leave: the number, and every byte of each buffer that is lent to be written. A refusal changes no byte.
+use mathlib.Core.Bool.{Bool, not, _&&_}
+use mathlib.Core.List.{List, []}
+use Prim.Native.Nat.{ℕ, _+_, _*_}
+use lib.Dec.{eqb, leb, ltb}
 use lib.ListN.{length}
 use Rattle.format.specs.Choice.{if_then_else_}
-use Rattle.format.specs.Picture.{pixels, written}
+use Rattle.format.specs.declared.Pixel.{Pixel}
+use Rattle.format.specs.Picture.{Picture, pixels, written, paint}
 use Rattle.format.specs.Chain.{count, widthAt, stepAt}
 use Rattle.format.specs.Refusals.{chainRefusal, _before_, _unless_}
 use Rattle.format.specs.Stages.{stored, rebuilt, accepts}
+use Rattle.format.specs.Retouch.{spotRecords, differ, marks, maskOf, ones, answer, unmade, remade}
 
 -- a buffer has room for n pixels
 abbrev pub holds : List ℕ → ℕ → Bool
@@ -17,6 +19,18 @@ holds xs n = leb (4 * n) (length xs)
 -- how many records the strip has
 abbrev pub records : ℕ → ℕ → List ℕ → ℕ
 records w h cs = h * widthAt cs w (count cs)
+
+-- the point at column x of row y is inside
+abbrev pub inside : ℕ → ℕ → ℕ → ℕ → Bool
+inside w h x y = ltb x w && ltb y h
+
+-- the picture f with that point painted
+abbrev pub painted : ℕ → Picture → ℕ → ℕ → Pixel → Picture
+painted w f x y v = paint f (y * w + x) v
+
+-- the records that its spots belong to
+abbrev pub touched : ℕ → List ℕ → ℕ → ℕ → List ℕ
+touched w cs x y = spotRecords (stepAt cs w) (count cs) (y * w + x)
 
 module _ (w h : ℕ) (cs ds : List ℕ) where
   -- rebuilding, in one buffer whose front holds the strip
@@ -36,3 +50,29 @@ module _ (w h : ℕ) (cs ds : List ℕ) where
   unfoldable pub storeStrip : List ℕ → List ℕ → List ℕ
   storeStrip picture strip =
       if eqb (storeAnswer picture strip) 0 then written (records w h cs) (stored (stepAt cs w) ds (count cs) (pixels picture)) strip else strip
+
+  -- retouching: column x of row y painted with the color v
+  module _ (picture strip : List ℕ) (x y : ℕ) (v : Pixel) where
+    abbrev pub newPicture : Picture
+    newPicture = painted w (pixels picture) x y v
+
+    abbrev pub newStrip : Picture
+    newStrip = remade (stepAt cs w) ds (count cs) newPicture (touched w cs x y) (pixels strip)
+
+    -- which records changed, spot by spot
+    abbrev pub changes : List Bool
+    changes = marks (differ (records w h cs) (pixels strip) newStrip) [] (touched w cs x y)
+
+    unfoldable pub retouchAnswer : ℕ
+    retouchAnswer =
+        chainRefusal w h cs (length ds)
+        before (8 unless (holds picture (h * w) && holds strip (records w h cs)))
+        before (9 unless inside w h x y)
+        before (22 unless not (unmade (stepAt cs w) ds (count cs) (records w h cs) newPicture (touched w cs x y)))
+        before answer (ones changes) (maskOf changes)
+
+    unfoldable pub retouchPicture : List ℕ
+    retouchPicture = if leb 256 retouchAnswer then written (h * w) newPicture picture else picture
+
+    unfoldable pub retouchStrip : List ℕ
+    retouchStrip = if leb 256 retouchAnswer then written (records w h cs) newStrip strip else strip

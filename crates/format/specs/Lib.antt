@@ -1,5 +1,6 @@
 -- What RFC 9649 and document 01 say of pixels, as definitions that compute. They need no code to be read: `Pixel` is a record of four numbers.
 pub mod Choice
+pub mod Indices
 pub mod Byte
 pub mod Pixel
 pub mod Picture
@@ -12,5 +13,8 @@ pub mod ColorMap
 pub mod Chain
 pub mod Refusals
 pub mod Stages
+pub mod Made
+pub mod Retouch
 pub mod Calls
+pub mod Desk
 pub mod ValidStep

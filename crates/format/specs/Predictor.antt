@@ -43,19 +43,22 @@ predictions l t tr tl =
 unfoldable pub predict : ℕ → Pixel → Pixel → Pixel → Pixel → Pixel
 predict mode l t tr tl = getD (predictions l t tr tl) mode clear
 
--- the neighbors of column x of row y in a picture of w columns
-module _ (w : ℕ) (f : Picture) (x y : ℕ) where
-  abbrev pub left : Pixel
+-- the neighbors of column x of row y in a picture f of w columns; of `index` they are the indices
+abbrev pub index : ℕ → ℕ
+index q = q
+
+module _ {P : Type 0} (w : ℕ) (f : ℕ → P) (x y : ℕ) where
+  abbrev pub left : P
   left = f (y * w + (x - 1))
 
-  abbrev pub top : Pixel
+  abbrev pub top : P
   top = f ((y - 1) * w + x)
 
-  abbrev pub topLeft : Pixel
+  abbrev pub topLeft : P
   topLeft = f ((y - 1) * w + (x - 1))
 
   -- TR of the last column is column 0 of the same row. At width 2 that is L. At width 1 every pixel is on a border, and no mode is used
-  abbrev pub topRight : Pixel
+  abbrev pub topRight : P
   topRight = if eqb (x + 1) w then f (y * w) else f ((y - 1) * w + (x + 1))
 
 -- byte 1 of the block's data pixel

@@ -12,8 +12,10 @@ use Rattle.format.specs.Stages.{partOf, stored, takes, accepts}
 use Rattle.format.proofs.ByKind.{takes-table}
 use Rattle.pixel.specs.Held.{HoldsRow}
 use Rattle.color_table.specs.Pack.{Hints}
-use Rattle.store.specs.Stage.{Ready, HintsFor, widthAfter}
-use Rattle.store.proofs.Stages.{ready-first, accepts-none, accepts-table}
+use Rattle.chain.specs.Ready.{Ready, widthAfter}
+use Rattle.store.specs.Stage.{HintsFor}
+use Rattle.chain.proofs.Ready.{ready-first}
+use Rattle.store.proofs.Stages.{accepts-none, accepts-table}
 
 module _ (steps : ℕ → Step) (t w h n : ℕ) (ready : Ready steps (t + 1) w h n) where
   pub first-ready : Ready steps t w h n

@@ -19,7 +19,7 @@ use Rattle.pixel.proofs.Part.{back, part}
 use Rattle.pixel.proofs.Held.{held-part, held-back}
 use Rattle.pixel.proofs.Given.{given-written}
 use Rattle.store.specs.Scratch.{Scratch}
-use Rattle.store.specs.Stage.{widthAfter}
+use Rattle.chain.specs.Ready.{widthAfter}
 use Rattle.store.proofs.Lent.{back-length, lent-length}
 use Rattle.store.proofs.Packed.{every-all, row-accepted}
 

@@ -15,7 +15,8 @@ use Rattle.format.proofs.Written.{pixels-written}
 use Rattle.pixel.specs.Held.{HoldsRow}
 use Rattle.pixel.proofs.Part.{part}
 use Rattle.pixel.proofs.Held.{held-part}
-use Rattle.store.specs.Stage.{Ready, Started, Above, Stored, widthAfter}
+use Rattle.chain.specs.Ready.{Ready, widthAfter}
+use Rattle.store.specs.Stage.{Started, Above, Stored}
 use Rattle.store.proofs.Packed.{packed-in, row-accepted}
 use Rattle.store.proofs.Stages.{accepts-at}
 

@@ -8,13 +8,13 @@ use native.Mathlib.Decide.{ℕ-discrete}
 use native.Mathlib.Omega.{arith}
 use Rattle.format.specs.declared.Step.{Step}
 use Rattle.format.specs.Picture.{Picture}
-use Rattle.format.specs.Sizes.{Sized}
 use Rattle.format.specs.Stages.{stored, takes, accepts}
 use Rattle.format.proofs.Choice.{and-left, and-right}
 use Rattle.format.proofs.ByKind.{takes-table, takes-other}
-use Rattle.format.proofs.Stages.{narrowed-fewer, narrowed-pos}
 use Rattle.pixel.specs.Held.{HoldsRow}
-use Rattle.store.specs.Stage.{Takes, Advanced, Ready, Above, HintsFor, widthAfter}
+use Rattle.chain.specs.Ready.{Ready, widthAfter}
+use Rattle.store.specs.Stage.{Takes, Advanced, Above, HintsFor}
+use Rattle.chain.proofs.Ready.{step-sized}
 use Rattle.store.proofs.Packed.{row-accepted}
 
 -- acceptance
@@ -57,34 +57,6 @@ module _ (steps : ℕ → Step) (h : ℕ) (ds : List ℕ) (f : Picture) where
 -- the records at hand
 
 module _ (steps : ℕ → Step) (count w h n : ℕ) (ready : Ready steps count w h n) where
-  pub after-pos : (k : ℕ) → k ≤ count → 1 ≤ widthAfter steps w k
-  after-pos zero l = ready .sized .wide
-  after-pos (suc k) l = narrowed-pos (steps k) (rw (ready .width k (omega arith)) (after-pos k (omega arith)))
-
-  pub after-fits : (k : ℕ) → k ≤ count → widthAfter steps w k ≤ 16384
-  after-fits zero l = ready .sized .narrow
-  after-fits (suc k) l =
-      let a = narrowed-fewer (steps k) in
-      let b = ready .width k (omega arith) in
-      let c = after-fits k (omega arith) in
-      omega arith
-
-  pub step-sized : (k : ℕ) → k < count → Sized (steps k .width) h
-  step-sized k l =
-      let e = ready .width k l in
-      let p = after-pos k (omega arith) in
-      let q = after-fits k (omega arith) in
-      record { wide = omega arith; narrow = omega arith; tall = ready .sized .tall; low = ready .sized .low }
-
-  pub ready-first : (m : ℕ) → m ≤ count → Ready steps m w h n
-  ready-first m l = record {
-    sized = ready .sized;
-    few = let f = ready .few in omega arith;
-    valid = λ k u. ready .valid k (omega arith);
-    width = λ k u. ready .width k (omega arith);
-    once = λ j k i u. ready .once j k i (omega arith);
-  }
-
   -- what record k asks of row y
   pub takes-row : (ds : List ℕ) (f : Picture) (hints row : List ℕ) (k y : ℕ) → HintsFor steps count ds hints → accepts steps h ds count f ≡ true → HoldsRow (stored steps ds k f) y (widthAfter steps w k) row
       → k < count → y < h → Takes (steps k) ds row hints
@@ -106,7 +78,7 @@ module _ (steps : ℕ → Step) (count w h n : ℕ) (ready : Ready steps count w
 
     -- another record's row, where record k is no predictor
     other : (j z : ℕ) → j < count → (steps k .kind ≡ 0 → ⊥) → HoldsRow (stored steps ds j f) z (steps j .width) rows → HoldsRow (stored steps ds j f) z (steps j .width) rows′
-    other j z u d r x i = adv .kept d x (let b = step-sized j u .narrow in omega arith) ∙ r x i
+    other j z u d r x i = adv .kept d x (let b = step-sized steps count w h n ready j u .narrow in omega arith) ∙ r x i
 
     -- two predictors
     twice : (j : ℕ) → j < count → (j ≡ k → ⊥) → steps j .kind ≡ 0 → steps k .kind ≡ 0 → ⊥

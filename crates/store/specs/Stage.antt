@@ -2,20 +2,17 @@
 use mathlib.Core.Bool.{Bool, true}
 use mathlib.Core.List.{List}
 use mathlib.Core.Path.{_≡_}
-use Prim.Native.Nat.{ℕ, zero, suc, _-_, _<_, _≤_}
-use lib.ListN.{getD}
+use Prim.Native.Nat.{ℕ, _-_, _<_, _≤_}
 use Rattle.format.specs.declared.Step.{Step}
 use Rattle.format.specs.Choice.{if_then_else_}
 use Rattle.format.specs.Picture.{Picture, pixels, written}
 use Rattle.format.specs.ColorTable.{accepted}
-use Rattle.format.specs.Sizes.{Sized}
 use Rattle.format.specs.Chain.{narrowed}
 use Rattle.format.specs.Refusals.{_unless_}
-use Rattle.format.specs.ValidStep.{ValidStep}
 use Rattle.format.specs.Stages.{partOf, forward, stored}
 use Rattle.pixel.specs.Held.{HoldsRow}
 use Rattle.color_table.specs.Pack.{Hints}
-use Rattle.chain.specs.Reading.{noStep}
+use Rattle.chain.specs.Ready.{widthAfter}
 use Rattle.store.specs.Scratch.{SameFirst}
 
 -- what a table asks of a row: hints for its entries, and an entry for each pixel
@@ -28,23 +25,6 @@ pub record Advanced (s : Step) (ds : List ℕ) (y : ℕ) (row rows row′ rows�
   pub made : (f : Picture) → HoldsRow f y (s .width) row → (s .kind ≡ 0 → 1 ≤ y → HoldsRow f (y - 1) (s .width) rows) → HoldsRow (forward s ds f) y (narrowed s) row′
   pub left : (f : Picture) → HoldsRow f y (s .width) row → s .kind ≡ 0 → HoldsRow f y (s .width) rows′
   pub kept : (s .kind ≡ 0 → ⊥) → SameFirst rows rows′
-
--- the records in an array
-abbrev pub stepsIn : List Step → ℕ → Step
-stepsIn steps k = getD steps k noStep
-
--- the current width after the first k records
-abbrev pub widthAfter : (ℕ → Step) → ℕ → ℕ → ℕ
-widthAfter steps w zero = w
-widthAfter steps w (suc k) = narrowed (steps k)
-
--- the first `count` records are those of a valid chain
-pub record Ready (steps : ℕ → Step) (count w h n : ℕ) : Type 0 where
-  pub sized : Sized w h
-  pub few : count ≤ 4
-  pub valid : (k : ℕ) → k < count → ValidStep (steps k) h n
-  pub width : (k : ℕ) → k < count → steps k .width ≡ widthAfter steps w k
-  pub once : (j k : ℕ) → j < k → k < count → steps j .kind ≡ steps k .kind → ⊥
 
 -- row y is at hand after r records: none, or the first, which is then a table
 pub record Started (steps : ℕ → Step) (count w y : ℕ) (ds : List ℕ) (f : Picture) (r : ℕ) (row : List ℕ) : Type 0 where

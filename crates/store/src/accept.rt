@@ -12,7 +12,8 @@ ghost use Rattle.format.specs.ValidStep.{ValidStep};
 ghost use Rattle.format.specs.Stages.{partOf, stored, takes, accepts};
 ghost use Rattle.color_table.specs.Pack.{Hints};
 ghost use Rattle.store.specs.Scratch.{Scratch};
-ghost use Rattle.store.specs.Stage.{Ready, HintsFor, stepsIn};
+ghost use Rattle.chain.specs.Ready.{Ready, stepsIn};
+ghost use Rattle.store.specs.Stage.{HintsFor};
 
 // The number of the table's record; `count` where there is none.
 pub fn table_at(steps: [Step; 4], count: usize) -> usize

@@ -16,7 +16,8 @@ ghost use Rattle.format.specs.Stages.{partOf, forward, stored, takes, accepts};
 ghost use Rattle.color_table.specs.Pack.{Hints};
 ghost use Rattle.pixel.specs.Held.{HoldsRow};
 ghost use Rattle.store.specs.Scratch.{Scratch};
-ghost use Rattle.store.specs.Stage.{Ready, Started, Above, HintsFor, stepsIn, widthAfter};
+ghost use Rattle.chain.specs.Ready.{Ready, stepsIn, widthAfter};
+ghost use Rattle.store.specs.Stage.{Started, Above, HintsFor};
 
 // Whether the first record is a table.
 fn table_first(steps: [Step; 4], count: usize) -> bool

@@ -22,7 +22,8 @@ ghost use Rattle.format.specs.Stages.{partOf, forward, stored, takes, accepts};
 ghost use Rattle.color_table.specs.Pack.{Hints};
 ghost use Rattle.format.specs.Calls.{storeAnswer, storeStrip};
 ghost use Rattle.store.specs.Scratch.{Scratch};
-ghost use Rattle.store.specs.Stage.{Ready, HintsFor, Stored, stepsIn, widthAfter};
+ghost use Rattle.chain.specs.Ready.{Ready, stepsIn, widthAfter};
+ghost use Rattle.store.specs.Stage.{HintsFor, Stored};
 
 // The rows of an accepted picture; `last` is the strip's width.
 fn store_rows(

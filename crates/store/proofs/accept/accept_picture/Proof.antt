@@ -4,10 +4,10 @@ use Prim.Native.Nat.{_<_}
 use native.Mathlib.Omega.{arith}
 use borrow.Author.Needs.{needs}
 use Rattle.format.specs.Picture.{pixels}
-use Rattle.store.specs.Stage.{stepsIn}
+use Rattle.chain.specs.Ready.{stepsIn}
 use Rattle.store.proofs.Accepting.{accepts-by, accepts-all, some-hints}
 use Rattle.store.proofs.First.{first-width, none-stored}
-use Rattle.store.proofs.Stages.{ready-first, step-sized}
+use Rattle.chain.proofs.Ready.{ready-first, step-sized}
 use Rattle.store.proofs.Tables.{at-zero}
 use Rattle.store.proofs.accept.accept_picture.Statement.{statement}
 use Rattle.store.proofs.accept.accept_picture.Tie as tie

@@ -10,9 +10,11 @@ use Rattle.format.specs.Stages.{partOf, stored}
 use Rattle.chain.proofs.Parts.{part-entries}
 use Rattle.chain.proofs.Tabled.{not-taken, not-left}
 use Rattle.store.specs.Scratch.{Scratch}
-use Rattle.store.specs.Stage.{Above, stepsIn}
+use Rattle.chain.specs.Ready.{stepsIn}
+use Rattle.store.specs.Stage.{Above}
 use Rattle.store.proofs.Copied.{scratch-kept, accepted-none, accepted-more, accepted-not}
-use Rattle.store.proofs.Stages.{above-first, above-row, step-sized}
+use Rattle.chain.proofs.Ready.{step-sized}
+use Rattle.store.proofs.Stages.{above-first, above-row}
 use Rattle.store.proofs.Accepting.{first-ready, first-hints, first-accepts, table-held, table-takes, all-rows}
 use Rattle.store.proofs.accept.accept_rows.Statement.{statement}
 use Rattle.store.proofs.accept.accept_rows.Tie as tie

@@ -3,7 +3,7 @@ use mathlib.Core.Path.{_≡_}
 use Prim.Native.Nat.{_+_, _-_}
 use native.Mathlib.Omega.{arith}
 use borrow.Author.Needs.{needs}
-use Rattle.store.specs.Stage.{stepsIn}
+use Rattle.chain.specs.Ready.{stepsIn}
 use Rattle.chain.proofs.Parts.{part-entries}
 use Rattle.store.proofs.accept.hints_at.Statement.{statement}
 use Rattle.store.proofs.accept.hints_at.Tie as tie

@@ -1,7 +1,7 @@
 -- `table_at` meets its contract: before each turn none of the first t records is a table.
 use Prim.Native.Nat.{_≤_, _-_}
 use native.Mathlib.Omega.{arith}
-use Rattle.store.specs.Stage.{stepsIn}
+use Rattle.chain.specs.Ready.{stepsIn}
 use Rattle.store.proofs.Tables.{NoTable, none-yet, none-more}
 use Rattle.store.proofs.accept.table_at.Statement.{statement}
 use Rattle.store.proofs.accept.table_at.Tie as tie

@@ -6,10 +6,12 @@ use Rattle.format.specs.Picture.{pixels}
 use Rattle.format.specs.Stages.{stored}
 use Rattle.pixel.specs.Held.{HoldsRow}
 use Rattle.store.specs.Scratch.{Scratch}
-use Rattle.store.specs.Stage.{Above, stepsIn, widthAfter}
+use Rattle.chain.specs.Ready.{stepsIn, widthAfter}
+use Rattle.store.specs.Stage.{Above}
 use Rattle.store.proofs.Copied.{scratch-kept}
 use Rattle.store.proofs.First.{above-started}
-use Rattle.store.proofs.Stages.{step-sized, takes-row, row-next, above-next}
+use Rattle.chain.proofs.Ready.{step-sized}
+use Rattle.store.proofs.Stages.{takes-row, row-next, above-next}
 use Rattle.store.proofs.row.make_row.Statement.{statement}
 use Rattle.store.proofs.row.make_row.Tie as tie
 

@@ -5,7 +5,7 @@ use Rattle.format.specs.Picture.{pixels}
 use Rattle.pixel.proofs.Blocks.{row-there}
 use Rattle.store.proofs.Copied.{first-row, part-room}
 use Rattle.store.proofs.First.{first-takes, first-width, started-first, started-none}
-use Rattle.store.proofs.Stages.{step-sized, after-fits}
+use Rattle.chain.proofs.Ready.{step-sized, after-fits}
 use Rattle.store.proofs.row.start_row.Statement.{statement}
 use Rattle.store.proofs.row.start_row.Tie as tie
 

@@ -3,7 +3,8 @@ use mathlib.Core.Path.{sym, _∙_}
 use native.Mathlib.Omega.{arith}
 use borrow.Author.Needs.{needs}
 use Rattle.chain.proofs.Sizes.{area-small}
-use Rattle.store.proofs.Answers.{ready-of, last-of, strip-small, refused-chain, refused-picture, refused-strip, answered}
+use Rattle.chain.proofs.Ready.{ready-of, last-of, strip-small}
+use Rattle.store.proofs.Answers.{refused-chain, refused-picture, refused-strip, answered}
 use Rattle.store.proofs.store.store.Statement.{statement}
 use Rattle.store.proofs.store.store.Tie as tie
 

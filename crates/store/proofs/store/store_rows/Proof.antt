@@ -11,9 +11,11 @@ use Rattle.pixel.proofs.Blocks.{row-there}
 use Rattle.pixel.proofs.Given.{front-done}
 use Rattle.pixel.proofs.Rows.{no-rows, row-more}
 use Rattle.store.specs.Scratch.{Scratch}
-use Rattle.store.specs.Stage.{Above, stepsIn}
+use Rattle.chain.specs.Ready.{stepsIn}
+use Rattle.store.specs.Stage.{Above}
 use Rattle.store.proofs.Copied.{scratch-kept, row-stored, strip-length, part-room}
-use Rattle.store.proofs.Stages.{above-first, above-row, after-fits}
+use Rattle.chain.proofs.Ready.{after-fits}
+use Rattle.store.proofs.Stages.{above-first, above-row}
 use Rattle.store.proofs.store.store_rows.Statement.{statement}
 use Rattle.store.proofs.store.store_rows.Tie as tie
 

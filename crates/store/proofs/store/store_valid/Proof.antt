@@ -3,9 +3,9 @@ use Prim.Native.Nat.{_<_}
 use native.Mathlib.Omega.{arith}
 use borrow.Author.Needs.{needs}
 use Rattle.format.specs.Picture.{pixels}
-use Rattle.store.specs.Stage.{stepsIn}
+use Rattle.chain.specs.Ready.{stepsIn}
 use Rattle.store.proofs.First.{first-width, alone-width, alone-as}
-use Rattle.store.proofs.Stages.{step-sized}
+use Rattle.chain.proofs.Ready.{step-sized}
 use Rattle.store.proofs.store.store_valid.Statement.{statement}
 use Rattle.store.proofs.store.store_valid.Tie as tie
 

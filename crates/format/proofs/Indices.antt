@@ -1,0 +1,96 @@
+-- Laws of lists of indices: what is in them, and how many numbers pass a test.
+use mathlib.Core.Bool.{Bool, true, false, _||_, false≢true}
+use mathlib.Core.List.{List, [], _∷_, List·Memᴰ, List·Memᴰ·head, List·Memᴰ·tail, List·Memᴰ·append-cases, List·Memᴰ·not-nil, List·Memᴰ·cases-cons, Memᴰ·append-left, Memᴰ·append-right, Memᴰ·cast}
+use mathlib.Core.Logic.{_⊎_, inl, inr, ⊎-elim}
+use mathlib.Core.Path.{_≡_, refl, sym, subst}
+use Prim.Native.Nat.{ℕ, zero, suc, _<_}
+use native.Mathlib.Omega.{arith}
+use borrow.Author.Tests.{eqb-true, eq-eqb}
+use lib.Dec.{eqb}
+use Rattle.format.specs.Indices.{some, among, union, howMany}
+
+-- tests
+
+pub decide : (b : Bool) → (b ≡ true) ⊎ (b ≡ false)
+decide true = inl refl
+decide false = inr refl
+
+pub or-left : (a b : Bool) → a ≡ true → (a || b) ≡ true
+or-left true b e = refl
+or-left false b e = absurd (false≢true e)
+
+pub or-right : (a b : Bool) → b ≡ true → (a || b) ≡ true
+or-right true b e = refl
+or-right false b e = e
+
+pub or-cases : (a b : Bool) → (a || b) ≡ true → (a ≡ true) ⊎ (b ≡ true)
+or-cases true b e = inl refl
+or-cases false b e = inr e
+
+-- what is in a list
+
+-- r is one of the list
+abbrev pub In : ℕ → List ℕ → Type 0
+In r l = List·Memᴰ r l
+
+-- one of the list that passes makes `some` true
+pub some-in : (t : ℕ → Bool) (q : ℕ) (qs : List ℕ) → In q qs → t q ≡ true → some t qs ≡ true
+some-in t q [] m e = absurd (List·Memᴰ·not-nil m)
+some-in t q (x ∷ qs) m e =
+    ⊎-elim (λ p. or-left (t x) (some t qs) (subst (λ (y : ℕ). t y ≡ true) p e)) (λ n. or-right (t x) (some t qs) (some-in t q qs n e)) (List·Memᴰ·cases-cons m)
+
+pub in-some : (t : ℕ → Bool) (qs : List ℕ) → some t qs ≡ true → (q : ℕ) × In q qs × (t q ≡ true)
+in-some t [] e = absurd (false≢true e)
+in-some t (x ∷ qs) e =
+    ⊎-elim {C = (q : ℕ) × In q (x ∷ qs) × (t q ≡ true)}
+    (λ p. (x, List·Memᴰ·head refl, p))
+    (λ n. let s = in-some t qs n in (s .0, List·Memᴰ·tail (s .1), s .2))
+    (or-cases (t x) (some t qs) e)
+
+pub among-in : (r : ℕ) (l : List ℕ) → among r l ≡ true → In r l
+among-in r l e = let s = in-some (eqb r) l e in Memᴰ·cast (eqb-true r (s .0) (s .2)) (s .1)
+
+pub in-among : (r : ℕ) (l : List ℕ) → In r l → among r l ≡ true
+in-among r l m = some-in (eqb r) r l m (eq-eqb r r refl)
+
+-- a number is in a list or is not
+pub in-or-out : (r : ℕ) (l : List ℕ) → In r l ⊎ (In r l → ⊥)
+in-or-out r l = ⊎-elim (λ e. inl (among-in r l e)) (λ e. inr (λ m. false≢true (subst (λ (b : Bool). b ≡ true) e (in-among r l m)))) (decide (among r l))
+
+-- a union has what its lists have
+pub in-union : (h : ℕ → List ℕ) {r q : ℕ} (qs : List ℕ) → In q qs → In r (h q) → In r (union h qs)
+in-union h [] m k = absurd (List·Memᴰ·not-nil m)
+in-union h {r} (x ∷ qs) m k =
+    ⊎-elim (λ e. Memᴰ·append-left (union h qs) (subst (λ (y : ℕ). In r (h y)) e k)) (λ n. Memᴰ·append-right (h x) (in-union h qs n k)) (List·Memᴰ·cases-cons m)
+
+pub union-in : (h : ℕ → List ℕ) (r : ℕ) (qs : List ℕ) → In r (union h qs) → (q : ℕ) × In q qs × In r (h q)
+union-in h r [] m = absurd (List·Memᴰ·not-nil m)
+union-in h r (x ∷ qs) m =
+    ⊎-elim {C = (q : ℕ) × In q (x ∷ qs) × In r (h q)}
+    (λ k. (x, List·Memᴰ·head refl, k))
+    (λ n. let s = union-in h r qs n in (s .0, List·Memᴰ·tail (s .1), s .2))
+    (List·Memᴰ·append-cases (h x) m)
+
+-- a fact of each number of a list
+abbrev pub Each : (ℕ → Type 0) → List ℕ → Type 0
+Each P [] = Unit {0}
+Each P (q ∷ qs) = P q × Each P qs
+
+pub each-in : (P : ℕ → Type 0) (q : ℕ) (qs : List ℕ) → Each P qs → In q qs → P q
+each-in P q [] a m = absurd (List·Memᴰ·not-nil m)
+each-in P q (x ∷ qs) a m = ⊎-elim (λ e. subst P (sym e) (a .0)) (λ n. each-in P q qs (a .1) n) (List·Memᴰ·cases-cons m)
+
+pub in-each : (P : ℕ → Type 0) (qs : List ℕ) → ((q : ℕ) → In q qs → P q) → Each P qs
+in-each P [] h = tt
+in-each P (q ∷ qs) h = (h q (List·Memᴰ·head refl), in-each P qs (λ x m. h x (List·Memᴰ·tail m)))
+
+-- how many numbers below m pass
+
+-- a count depends on the numbers below m alone
+pub howMany-same : (m : ℕ) (s t : ℕ → Bool) → ((q : ℕ) → q < m → s q ≡ t q) → howMany m s ≡ howMany m t
+howMany-same zero s t h = refl
+howMany-same (suc m) s t h = cc (h m (omega arith), howMany-same m s t (λ q l. h q (omega arith)))
+
+pub howMany-none : (m : ℕ) (t : ℕ → Bool) → ((q : ℕ) → q < m → t q ≡ false) → howMany m t ≡ 0
+howMany-none zero t h = refl
+howMany-none (suc m) t h = rw (h m (omega arith), howMany-none m t (λ q l. h q (omega arith)))

@@ -103,6 +103,7 @@ module _ (w h : ℕ) (cs ds : List ℕ) where
       pub answers : answered ≡ answersTo (deskAnswer w h cs ds) (deskHolds w h cs ds) (pixels (b .picture)) calls
       pub picture : left .picture ≡ written (h * w) (paintedWith w (pixels (b .picture)) (accepted answered calls)) (b .picture)
       pub desk : left .picture ≡ written (h * w) (leftBy (deskHolds w h cs ds) (pixels (b .picture)) calls) (b .picture)
+      pub stored : storeAnswer w h cs ds (left .picture) (b .strip) ≡ 0
       pub strip : left .strip ≡ storeStrip w h cs ds (left .picture) (b .strip)
       pub next : (c : Retouch) → OneCall left c
 
@@ -185,20 +186,20 @@ module _ (w h : ℕ) (cs ds : List ℕ) where
   pub retouching-refused : RetouchingRefused w h cs ds
   retouching-refused = retouch-refused w h cs ds
 
+  matched : (b : Buffers) → StoredPair w h cs ds b → Matched w h cs ds b
+  matched b s =
+      let a = store-accepted w h cs ds (b .picture) (b .strip) (s .0) in
+      record {
+        room = a .1;
+        space = a .2;
+        taken = a .3;
+        stored = λ r l.
+            front-written (records w h cs) (stored (stepAt cs w) ds (count cs) (pixels (b .picture))) (b .strip) (b .strip) (b .strip)
+            (λ q m. refl) (sym (s .1) ∙ storeStrip-accepted w h cs ds (b .picture) (b .strip) (s .0)) r l;
+      }
+
   -- from a valid chain on
   module _ (valid : chainRefusal w h cs (length ds) ≡ 0) where
-    matched : (b : Buffers) → StoredPair w h cs ds b → Matched w h cs ds b
-    matched b s =
-        let a = store-accepted w h cs ds (b .picture) (b .strip) (s .0) in
-        record {
-          room = a .1;
-          space = a .2;
-          taken = a .3;
-          stored = λ r l.
-              front-written (records w h cs) (stored (stepAt cs w) ds (count cs) (pixels (b .picture))) (b .strip) (b .strip) (b .strip)
-              (λ q m. refl) (sym (s .1) ∙ storeStrip-accepted w h cs ds (b .picture) (b .strip) (s .0)) r l;
-        }
-
     one-call : (b : Buffers) (c : Retouch) → Matched w h cs ds b → OneCall w h cs ds b c
     one-call b c m = record {
       exactly = ap (leb 256) (same-answer w h cs ds valid b c m) ∙ accepts-exactly w h cs ds valid b c m;
@@ -215,20 +216,17 @@ module _ (w h : ℕ) (cs ds : List ℕ) where
         marked : List Bool
         marked = marks moved [] (touched w cs (c .x) (c .y))
 
-    restored : (picture strip : List ℕ) → 4 * (h * w) ≤ length picture → 4 * records w h cs ≤ length strip
-        → accepts (stepAt cs w) h ds (count cs) (pixels picture) ≡ true
-        → storeStrip w h cs ds picture strip ≡ written (records w h cs) (stored (stepAt cs w) ds (count cs) (pixels picture)) strip
-    restored picture strip room space taken = storeStrip-accepted w h cs ds picture strip (store-accepts w h cs ds picture strip valid room space taken)
-
   pub retouches-like-desk : RetouchesLikeDesk w h cs ds
   retouches-like-desk b s calls =
       let valid = store-accepted w h cs ds (b .picture) (b .strip) (s .0) .0 in
-      let m = matched valid b s in
+      let m = matched b s in
       let l = listed w h cs ds valid calls b (pixels (b .picture)) refl m in
+      let a = store-accepts w h cs ds (left w h cs ds b calls .picture) (b .strip) valid (l .matched .room) (m .space) (l .matched .taken) in
       record {
         answers = l .answers;
         picture = l .picture ∙ ap (λ (f : Picture). written (h * w) f (b .picture)) (desk-painted w h cs ds calls (pixels (b .picture)) ∙ rw (← l .answers) refl);
         desk = l .picture;
-        strip = l .strip ∙ rw (← l .read) (sym (restored valid (left w h cs ds b calls .picture) (b .strip) (l .matched .room) (m .space) (l .matched .taken)));
+        stored = a;
+        strip = l .strip ∙ rw (← l .read) (sym (storeStrip-accepted w h cs ds (left w h cs ds b calls .picture) (b .strip) a));
         next = λ c. one-call valid (left w h cs ds b calls) c (l .matched);
       }

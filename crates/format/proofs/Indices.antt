@@ -7,25 +7,11 @@ use Prim.Native.Nat.{ℕ, zero, suc, _<_}
 use native.Mathlib.Omega.{arith}
 use borrow.Author.Tests.{eqb-true, eq-eqb}
 use lib.Dec.{eqb}
+use lib.ListN.{getD}
 use Rattle.format.specs.Indices.{some, among, union, howMany}
+use Rattle.format.proofs.Choice.{decide, or-left, or-right, or-cases}
 
 -- tests
-
-pub decide : (b : Bool) → (b ≡ true) ⊎ (b ≡ false)
-decide true = inl refl
-decide false = inr refl
-
-pub or-left : (a b : Bool) → a ≡ true → (a || b) ≡ true
-or-left true b e = refl
-or-left false b e = absurd (false≢true e)
-
-pub or-right : (a b : Bool) → b ≡ true → (a || b) ≡ true
-or-right true b e = refl
-or-right false b e = e
-
-pub or-cases : (a b : Bool) → (a || b) ≡ true → (a ≡ true) ⊎ (b ≡ true)
-or-cases true b e = inl refl
-or-cases false b e = inr e
 
 -- what is in a list
 
@@ -39,6 +25,7 @@ some-in t q [] m e = absurd (List·Memᴰ·not-nil m)
 some-in t q (x ∷ qs) m e =
     ⊎-elim (λ p. or-left (t x) (some t qs) (subst (λ (y : ℕ). t y ≡ true) p e)) (λ n. or-right (t x) (some t qs) (some-in t q qs n e)) (List·Memᴰ·cases-cons m)
 
+-- where `some` is true, one of the list passes
 pub in-some : (t : ℕ → Bool) (qs : List ℕ) → some t qs ≡ true → (q : ℕ) × In q qs × (t q ≡ true)
 in-some t [] e = absurd (false≢true e)
 in-some t (x ∷ qs) e =
@@ -47,6 +34,7 @@ in-some t (x ∷ qs) e =
     (λ n. let s = in-some t qs n in (s .0, List·Memᴰ·tail (s .1), s .2))
     (or-cases (t x) (some t qs) e)
 
+-- the test and the fact that r is one of the list
 pub among-in : (r : ℕ) (l : List ℕ) → among r l ≡ true → In r l
 among-in r l e = let s = in-some (eqb r) l e in Memᴰ·cast (eqb-true r (s .0) (s .2)) (s .1)
 
@@ -63,6 +51,7 @@ in-union h [] m k = absurd (List·Memᴰ·not-nil m)
 in-union h {r} (x ∷ qs) m k =
     ⊎-elim (λ e. Memᴰ·append-left (union h qs) (subst (λ (y : ℕ). In r (h y)) e k)) (λ n. Memᴰ·append-right (h x) (in-union h qs n k)) (List·Memᴰ·cases-cons m)
 
+-- and nothing else
 pub union-in : (h : ℕ → List ℕ) (r : ℕ) (qs : List ℕ) → In r (union h qs) → (q : ℕ) × In q qs × In r (h q)
 union-in h r [] m = absurd (List·Memᴰ·not-nil m)
 union-in h r (x ∷ qs) m =
@@ -71,11 +60,23 @@ union-in h r (x ∷ qs) m =
     (λ n. let s = union-in h r qs n in (s .0, List·Memᴰ·tail (s .1), s .2))
     (List·Memᴰ·append-cases (h x) m)
 
--- a fact of each number of a list
-abbrev pub Each : (ℕ → Type 0) → List ℕ → Type 0
+-- a fact of each of a list
+abbrev pub Each : {A : Type 0} → (A → Type 0) → List A → Type 0
 Each P [] = Unit {0}
 Each P (q ∷ qs) = P q × Each P qs
 
+-- the facts of a list, one by one
+infixr 2 _and_
+abbrev pub _and_ : {A B : Type 0} → A → B → A × B
+a and b = (a, b)
+
+-- at an index, or past the end
+pub each-at : {A : Type 0} (P : A → Type 0) (qs : List A) (i : ℕ) (other : A) → P other → Each P qs → P (getD qs i other)
+each-at P [] i other p a = p
+each-at P (q ∷ qs) zero other p a = a .0
+each-at P (q ∷ qs) (suc i) other p a = each-at P qs i other p (a .1)
+
+-- of a member, and from every member's
 pub each-in : (P : ℕ → Type 0) (q : ℕ) (qs : List ℕ) → Each P qs → In q qs → P q
 each-in P q [] a m = absurd (List·Memᴰ·not-nil m)
 each-in P q (x ∷ qs) a m = ⊎-elim (λ e. subst P (sym e) (a .0)) (λ n. each-in P q qs (a .1) n) (List·Memᴰ·cases-cons m)
@@ -91,6 +92,7 @@ pub howMany-same : (m : ℕ) (s t : ℕ → Bool) → ((q : ℕ) → q < m → s
 howMany-same zero s t h = refl
 howMany-same (suc m) s t h = cc (h m (omega arith), howMany-same m s t (λ q l. h q (omega arith)))
 
+-- none passes
 pub howMany-none : (m : ℕ) (t : ℕ → Bool) → ((q : ℕ) → q < m → t q ≡ false) → howMany m t ≡ 0
 howMany-none zero t h = refl
 howMany-none (suc m) t h = rw (h m (omega arith), howMany-none m t (λ q l. h q (omega arith)))

@@ -61,10 +61,11 @@ module _ (n : ℕ) (f g : Picture) (same : Alike n f g) where
 
 -- color table
 
-digits-same : (u n : ℕ) (f g : ℕ → ℕ) → ((k : ℕ) → f k ≡ g k) → digits u n f ≡ digits u n g
+-- n digits depend on the first n numbers alone
+pub digits-same : (u n : ℕ) (f g : ℕ → ℕ) → ((k : ℕ) → k < n → f k ≡ g k) → digits u n f ≡ digits u n g
 unfolding digits
 digits-same u zero f g h = refl
-digits-same u (suc n) f g h = cc (h 0, digits-same u n (λ k. f (suc k)) (λ k. g (suc k)) (λ k. h (suc k)))
+digits-same u (suc n) f g h = cc (h 0 (omega arith), digits-same u n (λ k. f (suc k)) (λ k. g (suc k)) (λ k l. h (suc k) (omega arith)))
 
 module _ (w h size : ℕ) (e : Picture) (pos : 0 < w) (f g : Picture) where
   pub unpacked-same : Alike (h * packedWidth size w) f g → Alike (h * w) (unpacked w size e f) (unpacked w size e g)
@@ -77,7 +78,7 @@ module _ (w h size : ℕ) (e : Picture) (pos : 0 < w) (f g : Picture) where
 
   pub packed-same : Alike (h * w) f g → Alike (h * packedWidth size w) (packed w size e f) (packed w size e g)
   unfolding packed
-  packed-same same r l = ap (λ (b : ℕ). pixel 0 b 0 255) (digits-same (range n) n (index f) (index g) (λ k. index-same (r % packedWidth size w * n + k)))
+  packed-same same r l = ap (λ (b : ℕ). pixel 0 b 0 255) (digits-same (range n) n (index f) (index g) (λ k l. index-same (r % packedWidth size w * n + k)))
     where
       n : ℕ
       n = perPixel size

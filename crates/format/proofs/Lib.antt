@@ -1,11 +1,6 @@
 -- Laws about the definitions, a file for a file.
 pub mod Choice
 pub mod Indices
-pub mod Marks
-pub mod Locality
-pub mod Making
-pub mod Spots
-pub mod Retouching
 pub mod Byte
 pub mod Pixels
 pub mod Picture
@@ -22,6 +17,11 @@ pub mod ByKind
 pub mod Stages
 pub mod Valid
 pub mod Chains
+pub mod Locality
+pub mod Making
+pub mod Marks
+pub mod Spots
 pub mod Calls
+pub mod Retouching
 pub mod Demands
 pub mod Known

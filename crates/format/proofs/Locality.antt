@@ -19,6 +19,7 @@ use Rattle.format.specs.ColorTable.{perPixel, range, packedWidth, indexO
 use Rattle.format.specs.Stages.{partOf, forward, stored}
 use Rattle.format.specs.Retouch.{fiveSpots, packedOver, spotsOf, spotRecords}
 use Rattle.format.proofs.Choice.{if-same}
+use Rattle.format.proofs.Inside.{digits-same}
 use Rattle.format.proofs.Indices.{In, in-union}
 use Rattle.format.proofs.Picture.{paint-other}
 use Rattle.format.proofs.Predictor.{row-above}
@@ -28,6 +29,7 @@ use Rattle.format.proofs.ByKind.{kinds, forward-0, forward-1, forward-2
 abbrev pub Off : List ℕ → Picture → Picture → Type 0
 Off ps f g = (q : ℕ) → (In q ps → ⊥) → f q ≡ g q
 
+-- painting a pixel changes that pixel alone
 pub paint-off : (f : Picture) (p : ℕ) (v : Pixel) → Off (p ∷ []) f (paint f p v)
 paint-off f p v q n = sym (paint-other f p v q (λ e. n (List·Memᴰ·head e)))
 
@@ -100,11 +102,6 @@ module _ (f g : Picture) (r : ℕ) (e : f r ≡ g r) where
 
 -- color table
 
-digits-below-same : (u n : ℕ) (f g : ℕ → ℕ) → ((k : ℕ) → k < n → f k ≡ g k) → digits u n f ≡ digits u n g
-unfolding digits
-digits-below-same u zero f g h = refl
-digits-below-same u (suc n) f g h = cc (h 0 (omega arith), digits-below-same u n (λ k. f (suc k)) (λ k. g (suc k)) (λ k l. h (suc k) (omega arith)))
-
 -- an item that a packed pixel holds is packed into it
 pub packed-back : (w size r k : ℕ) → k < perPixel size → r % packedWidth size w * perPixel size + k < w
     → r ≡ packedOver w size (r / packedWidth size w * w + (r % packedWidth size w * perPixel size + k))
@@ -115,7 +112,7 @@ packed-back w size r k small inside =
 packed-local : (w size : ℕ) (e f g : Picture) (r : ℕ) → ((q : ℕ) → In r (packedOver w size q ∷ []) → f q ≡ g q) → packed w size e f r ≡ packed w size e g r
 unfolding packed
 packed-local w size e f g r h =
-    ap (λ (b : ℕ). pixel 0 b 0 255) (digits-below-same (range n) n (λ k. indexAt w size e f y (x k)) (λ k. indexAt w size e g y (x k)) same)
+    ap (λ (b : ℕ). pixel 0 b 0 255) (digits-same (range n) n (λ k. indexAt w size e f y (x k)) (λ k. indexAt w size e g y (x k)) same)
   where
     n : ℕ
     n = perPixel size
@@ -149,9 +146,11 @@ forward-local s ds pos known f g r h =
     own : (s .kind ≡ 0 → ⊥) → (s .kind ≡ 3 → ⊥) → f r ≡ g r
     own m n = h r (rw (spots-other s r m n) (List·Memᴰ·head refl))
 
+-- one record: a change stays in the spots
 pub forward-off : (s : Step) (ds : List ℕ) → 1 ≤ s .width → s .kind ≤ 3 → (ps : List ℕ) (f g : Picture) → Off ps f g → Off (union (spotsOf s) ps) (forward s ds f) (forward s ds g)
 forward-off s ds pos known ps f g h r n = forward-local s ds pos known f g r (λ q i. h q (λ m. n (in-union (spotsOf s) ps m i)))
 
+-- the first k records
 pub stored-off : (steps : ℕ → Step) (ds : List ℕ) (k : ℕ) → ((j : ℕ) → j < k → 1 ≤ steps j .width) → ((j : ℕ) → j < k → steps j .kind ≤ 3)
     → (p : ℕ) (f g : Picture) → Off (p ∷ []) f g → Off (spotRecords steps k p) (stored steps ds k f) (stored steps ds k g)
 unfolding stored spotRecords

@@ -1,17 +1,16 @@
--- What an item is made of lies inside its stage, and every item is looked at by one of its spots: so refusal 22, which looks at a point's spots alone,
--- falls exactly where storing would not accept the painted picture.
+-- What an item is made of is inside its stage, and every item is looked at by one of its spots. So refusal 22 is exact, though it looks at a point's spots alone.
 use mathlib.Core.Bool.{Bool, true, false, not, _&&_, _||_, false≢true, true≢false}
-use mathlib.Core.List.{List, [], _∷_, List·Memᴰ·head, List·Memᴰ·tail, List·Memᴰ·eq-of-singleton, List·Memᴰ·cases-cons}
+use mathlib.Core.List.{List, [], _∷_, List·Memᴰ·head, List·Memᴰ·tail}
 use mathlib.Core.Logic.{⊎-elim}
 use mathlib.Core.Path.{_≡_, refl, sym, ap, _∙_, subst}
-use Prim.Native.Nat.{ℕ, zero, suc, _+_, _-_, _*_, _/_, _%_, _<_, _≤_}
+use Prim.Native.Nat.{ℕ, zero, suc, _+_, _*_, _/_, _%_, _<_, _≤_}
 use native.Mathlib.Nat.{div-add-mod', mod-lt, div-lt-iff-lt-mul, div-mul-le-self}
 use native.Mathlib.Decide.{ℕ-discrete}
 use native.Mathlib.Omega.{arith}
 use borrow.Author.Tests.{ltb-true, lt-ltb, eqb-false, not-true}
 use lib.Arith.{digits-lt, digits-div, digits-mod}
 use lib.Dec.{eqb, ltb}
-use lib.ListN.{length, getD}
+use lib.ListN.{length}
 use Rattle.format.specs.Choice.{if_then_else_, every}
 use Rattle.format.specs.Indices.{some}
 use Rattle.format.specs.declared.Step.{Step}
@@ -24,36 +23,22 @@ use Rattle.format.specs.Stages.{partOf, takes, stored, accepts}
 use Rattle.format.specs.Made.{modeNames, namedBy, named, columns, madeOf, takesItem, missing}
 use Rattle.format.specs.Retouch.{packedOver, spotsOf, spotRecords, unmade}
 use Rattle.format.specs.Calls.{records}
-use Rattle.format.proofs.Choice.{and-left, and-right, and-both, every-at}
-use Rattle.format.proofs.Indices.{In, Each, each-in, or-left, or-right, or-cases, some-in, in-some, in-or-out, in-union}
+use Rattle.format.proofs.Choice.{and-left, and-right, and-both, or-left, or-right, or-cases, every-at, not-every, every-true, if-cases, opposite}
+use Rattle.format.proofs.Indices.{In, Each, _and_, each-at, each-in, some-in, in-some, in-or-out, in-union}
 use Rattle.format.proofs.Predictor.{row-above}
 use Rattle.format.proofs.ColorTable.{perPixel-pos, column-packed, ceiling-pos}
 use Rattle.format.proofs.ByKind.{kinds, byKind-0, byKind-1, byKind-2, byKind-3, narrowed-table, narrowed-other}
 use Rattle.format.proofs.Stages.{widthAt-pos, width-record}
 use Rattle.format.proofs.Locality.{Off, spots-predictor, spots-table, spots-other, stored-off}
-use Rattle.format.proofs.Valid.{valid-sized, valid-known}
+use Rattle.format.proofs.Valid.{Fits, valid-fits}
 
 -- what a mode names
-
--- a fact of each number of several lists
-abbrev EachOf : (ℕ → Type 0) → List (List ℕ) → Type 0
-EachOf P [] = Unit {0}
-EachOf P (l ∷ ls) = Each P l × EachOf P ls
-
-infixr 2 _and_
-abbrev pub _and_ : {A B : Type 0} → A → B → A × B
-a and b = (a, b)
-
-each-at : (P : ℕ → Type 0) (ls : List (List ℕ)) (m : ℕ) → EachOf P ls → Each P (getD ls m [])
-each-at P [] m a = tt
-each-at P (l ∷ ls) zero a = a .0
-each-at P (l ∷ ls) (suc m) a = each-at P ls m (a .1)
 
 -- each is one of L, T, TR and TL
 namedBy-each : (P : ℕ → Type 0) (m l t tr tl : ℕ) → P l → P t → P tr → P tl → Each P (namedBy m l t tr tl)
 unfolding namedBy
 namedBy-each P m l t tr tl a b c d =
-    each-at P (modeNames l t tr tl) m (
+    each-at (Each P) (modeNames l t tr tl) m [] tt (
     tt
     and (a and tt)
     and (b and tt)
@@ -71,15 +56,11 @@ namedBy-each P m l t tr tl a b c d =
     and tt
     )
 
-if-cases : {A : Type 0} (C : A → Type 0) (b : Bool) {x y : A} → (b ≡ true → C x) → (b ≡ false → C y) → C (if b then x else y)
-if-cases C true p q = p refl
-if-cases C false p q = q refl
-
--- what a prediction names is not behind it
-named-earlier : (w bits : ℕ) (d : Picture) → 0 < w → (r : ℕ) → Each (λ q. q ≤ r) (named w bits d (r % w) (r / w))
+-- what the prediction of an item below n names is below n
+named-inside : (w bits : ℕ) (d : Picture) → 0 < w → (n r : ℕ) → r < n → Each (λ q. q < n) (named w bits d (r % w) (r / w))
 unfolding named
-named-earlier w bits d pos r =
-    let P : ℕ → Type 0 = λ q. q ≤ r in
+named-inside w bits d pos n r b =
+    let P : ℕ → Type 0 = λ q. q < n in
     let x = r % w in
     let y = r / w in
     let e : y * w + x ≡ r = div-add-mod' r w in
@@ -95,6 +76,7 @@ named-earlier w bits d pos r =
 
 -- the columns of a packed pixel
 
+-- every column from x on that is one of n and inside
 in-columns : (w y n x z : ℕ) → x ≤ z → z < x + n → z < w → In (y * w + z) (columns w y n x)
 unfolding columns
 in-columns w y zero x z a b l = absurd (omega arith)
@@ -104,11 +86,12 @@ in-columns w y (suc n) x z a b l = rw (lt-ltb x w (omega arith)) (go (ℕ-discre
     go (yes e) ih = List·Memᴰ·head (ap (λ (k : ℕ). y * w + k) (sym e))
     go (no m) ih = List·Memᴰ·tail (ih (omega arith) (omega arith) l)
 
-columns-in : (w y n x : ℕ) → Each (λ q. (z : ℕ) × (z < w) × (q ≡ y * w + z)) (columns w y n x)
+-- of a row inside, they are inside
+columns-inside : (w h y : ℕ) → y < h → (n x : ℕ) → Each (λ q. q < h * w) (columns w y n x)
 unfolding columns
-columns-in w y zero x = tt
-columns-in w y (suc n) x =
-    if-cases (Each (λ q. (z : ℕ) × (z < w) × (q ≡ y * w + z))) (ltb x w) (λ t. (x, ltb-true x w t, refl) and columns-in w y n (suc x)) (λ t. tt)
+columns-inside w h y l zero x = tt
+columns-inside w h y l (suc n) x =
+    if-cases (Each (λ q. q < h * w)) (ltb x w) (λ t. digits-lt l (ltb-true x w t) and columns-inside w h y l n (suc x)) (λ t. tt)
 
 -- what an item is made of, by kind
 
@@ -141,31 +124,30 @@ module _ (s : Step) (h : ℕ) (ds : List ℕ) (pos : 1 ≤ s .width) (known : s 
   abbrev n : ℕ
   n = perPixel (s .size)
 
-  -- what an item inside is made of is inside
-  pub made-inside : (r q : ℕ) → r < h * narrowed s → In q (madeOf s ds r) → q < h * s .width
-  made-inside r q l m =
+  made-each : (r : ℕ) → r < h * narrowed s → Each (λ q. q < h * s .width) (madeOf s ds r)
+  made-each r l =
       kinds (s .kind) known
-      (λ e. ⊎-elim (λ p. own (λ z. omega arith) p) (λ i. let k = each-in (λ j. j ≤ r) q _ (named-earlier w (s .bits) (partOf s ds) pos r) i in
-      let b = wide (λ z. omega arith) in omega arith) (List·Memᴰ·cases-cons (subst (In q) (made-predictor s ds r e) m)))
-      (λ e. own (λ z. omega arith) (List·Memᴰ·eq-of-singleton (subst (In q) (made-color s ds r e) m)))
-      (λ e. own (λ z. omega arith) (List·Memᴰ·eq-of-singleton (subst (In q) (made-green s ds r e) m)))
+      (λ e. rw (made-predictor s ds r e) (wide (λ z. omega arith) and named-inside w (s .bits) (partOf s ds) pos (h * w) r (wide (λ z. omega arith))))
+      (λ e. rw (made-color s ds r e) (wide (λ z. omega arith) and tt))
+      (λ e. rw (made-green s ds r e) (wide (λ z. omega arith) and tt))
       (λ e.
-      let c = each-in (λ j. (z : ℕ) × (z < w) × (j ≡ r / v * w + z)) q _ (columns-in w (r / v) n (r % v * n)) (subst (In q) (made-table s ds r e) m) in
-      rw (c .2) (digits-lt (div-lt-iff-lt-mul (ceiling-pos w n pos (perPixel-pos (s .size))) .1 (rw (narrowed-table s e) at l)) (c .1)))
+      let row = div-lt-iff-lt-mul (ceiling-pos w n pos (perPixel-pos (s .size))) .1 (rw (narrowed-table s e) at l) in
+      rw (made-table s ds r e) (columns-inside w h (r / v) row n (r % v * n)))
     where
       wide : (s .kind ≡ 3 → ⊥) → r < h * w
       wide k = rw (narrowed-other s k) at l
 
-      own : (s .kind ≡ 3 → ⊥) → q ≡ r → q < h * w
-      own k e = let b = wide k in omega arith
+  -- what an item inside is made of is inside
+  pub made-inside : (r q : ℕ) → r < h * narrowed s → In q (madeOf s ds r) → q < h * s .width
+  made-inside r q l m = each-in (λ p. p < h * s .width) q (madeOf s ds r) (made-each r l) m
 
   -- an item inside is looked at by one of its spots, which is inside
   pub made-own : (q : ℕ) → q < h * s .width → (r : ℕ) × (r < h * narrowed s) × In r (spotsOf s q) × In q (madeOf s ds r)
   made-own q l =
       kinds {A = (r : ℕ) × (r < h * narrowed s) × In r (spotsOf s q) × In q (madeOf s ds r)} (s .kind) known
-      (λ e. (q, wide (λ z. omega arith), rw (spots-predictor s q e) (List·Memᴰ·head refl), rw (made-predictor s ds q e) (List·Memᴰ·head refl)))
-      (λ e. (q, wide (λ z. omega arith), rw (spots-other s q (λ z. omega arith) (λ z. omega arith)) (List·Memᴰ·head refl), rw (made-color s ds q e) (List·Memᴰ·head refl)))
-      (λ e. (q, wide (λ z. omega arith), rw (spots-other s q (λ z. omega arith) (λ z. omega arith)) (List·Memᴰ·head refl), rw (made-green s ds q e) (List·Memᴰ·head refl)))
+      (λ e. itself (λ z. omega arith) (spots-predictor s q e) (made-predictor s ds q e))
+      (λ e. itself (λ z. omega arith) (spots-other s q (λ z. omega arith) (λ z. omega arith)) (made-color s ds q e))
+      (λ e. itself (λ z. omega arith) (spots-other s q (λ z. omega arith) (λ z. omega arith)) (made-green s ds q e))
       (λ e. (
         packedOver w (s .size) q,
         rw (narrowed-table s e) (digits-lt (div-lt-iff-lt-mul pos .1 l) column),
@@ -173,8 +155,9 @@ module _ (s : Step) (h : ℕ) (ds : List ℕ) (pos : 1 ≤ s .width) (known : s 
         rw (made-table s ds (packedOver w (s .size) q) e) held,
       ))
     where
-      wide : (s .kind ≡ 3 → ⊥) → q < h * narrowed s
-      wide k = rw (narrowed-other s k) l
+      itself : {ss qs : List ℕ} → (s .kind ≡ 3 → ⊥) → spotsOf s q ≡ q ∷ ss → madeOf s ds q ≡ q ∷ qs
+          → (r : ℕ) × (r < h * narrowed s) × In r (spotsOf s q) × In q (madeOf s ds r)
+      itself k a b = (q, rw (narrowed-other s k) l, rw a (List·Memᴰ·head refl), rw b (List·Memᴰ·head refl))
 
       column : q % w / n < v
       column = column-packed w n (q % w) (perPixel-pos (s .size)) (mod-lt q pos)
@@ -188,48 +171,19 @@ module _ (s : Step) (h : ℕ) (ds : List ℕ) (pos : 1 ≤ s .width) (known : s 
 
 -- acceptance, item by item
 
-pub not-every : (n : ℕ) (t : ℕ → Bool) → every n t ≡ false → (q : ℕ) × (q < n) × (t q ≡ false)
-not-every zero t e = absurd (true≢false e)
-not-every (suc n) t e = go (t n) refl e (not-every n t)
+-- a record takes a picture if it takes each of its items
+takes-items : (s : Step) (h : ℕ) (ds : List ℕ) (f : Picture) → takes s h ds f ≡ every (h * s .width) (λ q. takesItem s ds (f q))
+unfolding takes takesItem
+takes-items s h ds f = go (eqb (s .kind) 3)
   where
-    go : (b : Bool) → t n ≡ b → (b && every n t) ≡ false → (every n t ≡ false → (q : ℕ) × (q < n) × (t q ≡ false)) → (q : ℕ) × (q < suc n) × (t q ≡ false)
-    go true p k ih = let s = ih k in (s .0, omega (arith, s .1), s .2)
-    go false p k ih = (n, omega arith, p)
+    has : ℕ → Bool
+    has q = hasEntry (s .size) (partOf s ds) (f q)
 
-module _ (s : Step) (h : ℕ) (ds : List ℕ) (f : Picture) where
-  -- a record that takes a picture takes its items, and one that does not does not take one of them
-  takes-item : takes s h ds f ≡ true → (q : ℕ) → q < h * s .width → takesItem s ds (f q) ≡ true
-  unfolding takes takesItem
-  takes-item e q l = go (eqb (s .kind) 3) e
-    where
-      go : (b : Bool) → (if b then every (h * s .width) (λ p. hasEntry (s .size) (partOf s ds) (f p)) else true) ≡ true
-          → (if b then hasEntry (s .size) (partOf s ds) (f q) else true) ≡ true
-      go true k = every-at (h * s .width) (λ p. hasEntry (s .size) (partOf s ds) (f p)) q l k
-      go false k = refl
-
-  untaken-item : takes s h ds f ≡ false → (q : ℕ) × (q < h * s .width) × (takesItem s ds (f q) ≡ false)
-  unfolding takes takesItem
-  untaken-item = go (eqb (s .kind) 3)
-    where
-      go : (b : Bool) → (if b then every (h * s .width) (λ p. hasEntry (s .size) (partOf s ds) (f p)) else true) ≡ false
-          → (q : ℕ) × (q < h * s .width) × ((if b then hasEntry (s .size) (partOf s ds) (f q) else true) ≡ false)
-      go true k = not-every (h * s .width) (λ p. hasEntry (s .size) (partOf s ds) (f p)) k
-      go false k = absurd (true≢false k)
-
-opposite : (a b : Bool) → (a ≡ true → b ≡ true → ⊥) → (b ≡ false → a ≡ true) → a ≡ not b
-opposite true true x y = absurd (x refl refl)
-opposite true false x y = refl
-opposite false true x y = refl
-opposite false false x y = y refl
+    go : (b : Bool) → (if b then every (h * s .width) has else true) ≡ every (h * s .width) (λ q. if b then has q else true)
+    go true = refl
+    go false = sym (every-true (h * s .width))
 
 -- chains: steps and the widths before them
-
--- a record of a known kind takes columns a wide to columns b wide
-pub record Fits (s : Step) (a b : ℕ) : Type 0 where
-  pub wide : 1 ≤ s .width
-  pub known : s .kind ≤ 3
-  pub before : s .width ≡ a
-  pub after : narrowed s ≡ b
 
 module _ (steps : ℕ → Step) (widths : ℕ → ℕ) (h : ℕ) (ds : List ℕ) where
   abbrev Fit : ℕ → Type 0
@@ -239,6 +193,13 @@ module _ (steps : ℕ → Step) (widths : ℕ → ℕ) (h : ℕ) (ds : List ℕ)
   abbrev lost : ℕ → Picture → ℕ → Bool
   lost k f q = missing steps ds k f q || not (takesItem (steps k) ds (stored steps ds k f q))
 
+  -- the next record takes each item of an accepted picture
+  taken : (k : ℕ) (f : Picture) → accepts steps h ds (suc k) f ≡ true → (q : ℕ) → q < h * steps k .width → takesItem (steps k) ds (stored steps ds k f q) ≡ true
+  unfolding accepts
+  taken k f a q l =
+      every-at (h * steps k .width) (λ r. takesItem (steps k) ds (stored steps ds k f r)) q l
+      (sym (takes-items (steps k) h ds (stored steps ds k f)) ∙ and-right (accepts steps h ds k f) _ a)
+
   -- of an accepted picture every item can be made
   none-missing : (k : ℕ) → Fit k → (f : Picture) → accepts steps h ds k f ≡ true → (r : ℕ) → r < h * widths k → missing steps ds k f r ≡ true → ⊥
   unfolding missing accepts
@@ -247,28 +208,29 @@ module _ (steps : ℕ → Step) (widths : ℕ → ℕ) (h : ℕ) (ds : List ℕ)
       let now = fit k (omega arith) in
       let m = in-some (lost k f) (madeOf (steps k) ds r) e in
       let q = m .0 in
-      let b = made-inside (steps k) h ds (now .wide) (now .known) r q (rw (now .after) l) (m .1) in
-      let taken = takes-item (steps k) h ds (stored steps ds k f) (and-right (accepts steps h ds k f) _ a) q b in
-      ⊎-elim (none-missing k (λ j i. fit j (omega arith)) f (and-left (accepts steps h ds k f) _ a) q (subst (λ (x : ℕ). q < h * x) (now .before) b))
-      (λ t. true≢false (sym taken ∙ not-true (takesItem (steps k) ds (stored steps ds k f q)) t))
+      let b = made-inside (steps k) h ds (now .wide) (now .known) r q (rw (now .to) l) (m .1) in
+      ⊎-elim (none-missing k (λ j i. fit j (omega arith)) f (and-left (accepts steps h ds k f) _ a) q (subst (λ (x : ℕ). q < h * x) (now .from) b))
+      (λ t. true≢false (sym (taken k f a q b) ∙ not-true (takesItem (steps k) ds (stored steps ds k f q)) t))
       (or-cases (missing steps ds k f q) (not (takesItem (steps k) ds (stored steps ds k f q))) (m .2))
 
   module _ (p : ℕ) (f g : Picture) (off : Off (p ∷ []) f g) where
-    -- a record in reach of p, inside, that cannot be made of g
+    -- a record of p's spots that is inside and cannot be made of g
     abbrev Missing : ℕ → Type 0
     Missing k = (r : ℕ) × (r < h * widths k) × In r (spotRecords steps k p) × (missing steps ds k g r ≡ true)
 
+    -- an item of p's spots that is lost makes one after the next record missing
     missing-next : (k : ℕ) → Fit (suc k) → (q : ℕ) → q < h * steps k .width → In q (spotRecords steps k p) → lost k g q ≡ true → Missing (suc k)
     unfolding missing spotRecords
     missing-next k fit q l m e =
         let now = fit k (omega arith) in
         let o = made-own (steps k) h ds (now .wide) (now .known) q l in (
           o .0,
-          subst (λ (x : ℕ). o .0 < h * x) (now .after) (o .1),
+          subst (λ (x : ℕ). o .0 < h * x) (now .to) (o .1),
           in-union (spotsOf (steps k)) (spotRecords steps k p) m (o .2),
           some-in (lost k g) q (madeOf (steps k) ds (o .0)) (o .3) e,
         )
 
+    -- of a changed picture that is not accepted, one of these cannot be made
     some-missing : (k : ℕ) → Fit k → accepts steps h ds k f ≡ true → accepts steps h ds k g ≡ false → Missing k
     unfolding accepts
     some-missing zero fit a b = absurd (true≢false b)
@@ -286,19 +248,18 @@ module _ (steps : ℕ → Step) (widths : ℕ → ℕ) (h : ℕ) (ds : List ℕ)
             ⊎-elim (λ m. m)
             (λ n.
             let same = stored-off steps ds k (λ j i. fit j (omega arith) .wide) (λ j i. fit j (omega arith) .known) p f g off q n in
-            let taken = takes-item s h ds (stored steps ds k f) (and-right (accepts steps h ds k f) _ a) q l in
-            absurd (true≢false (sym taken ∙ ap (takesItem s ds) same ∙ e)))
+            absurd (true≢false (sym (taken k f a q l) ∙ ap (takesItem s ds) same ∙ e)))
             (in-or-out q (spotRecords steps k p))
 
         go : (b : Bool) → accepts steps h ds k g ≡ b → (b && takes s h ds (stored steps ds k g)) ≡ false → (accepts steps h ds k g ≡ false → Missing k) → Missing (suc k)
         go false e t ih =
             let m = ih e in
-            missing-next k fit (m .0) (rw (now .before) (m .1)) (m .2) (or-left (missing steps ds k g (m .0)) _ (m .3))
+            missing-next k fit (m .0) (rw (now .from) (m .1)) (m .2) (or-left (missing steps ds k g (m .0)) _ (m .3))
         go true e t ih =
-            let u = untaken-item s h ds (stored steps ds k g) t in
+            let u = not-every (h * s .width) (λ q. takesItem s ds (stored steps ds k g q)) (sym (takes-items s h ds (stored steps ds k g)) ∙ t) in
             missing-next k fit (u .0) (u .1) (changed (u .0) (u .1) (u .2)) (or-right (missing steps ds k g (u .0)) _ (ap not (u .2)))
 
-    -- from an accepted picture: a record in reach cannot be made exactly if the changed picture is not accepted
+    -- from an accepted picture: a record of p's spots cannot be made exactly if the changed picture is not accepted
     unmade-steps : (k : ℕ) → Fit k → accepts steps h ds k f ≡ true → unmade steps ds k (h * widths k) g (spotRecords steps k p) ≡ not (accepts steps h ds k g)
     unfolding unmade
     unmade-steps k fit a = opposite (some t (spotRecords steps k p)) (accepts steps h ds k g) there back
@@ -319,16 +280,6 @@ module _ (steps : ℕ → Step) (widths : ℕ → ℕ) (h : ℕ) (ds : List ℕ)
             some-in t r (spotRecords steps k p) (m .2) (and-both (ltb r (h * widths k)) _ (lt-ltb r (h * widths k) (m .1)) (m .3))
 
 -- a valid chain
-
-module _ (w h : ℕ) (cs : List ℕ) (n : ℕ) (valid : chainRefusal w h cs n ≡ 0) where
-  pub valid-fits : (j : ℕ) → j < count cs → Fits (stepAt cs w j) (widthAt cs w j) (widthAt cs w (suc j))
-  unfolding widthAt
-  valid-fits j l = record {
-    wide = rw (width-record cs j (widthAt cs w j)) (widthAt-pos cs w j (valid-sized w h cs n valid .wide));
-    known = valid-known w h cs n valid j l;
-    before = width-record cs j (widthAt cs w j);
-    after = refl;
-  }
 
 module _ (w h : ℕ) (cs ds : List ℕ) (valid : chainRefusal w h cs (length ds) ≡ 0) where
   -- refusal 22 is exact: from an accepted picture, one of a point's records cannot be made exactly if storing does not accept the changed picture

@@ -26,7 +26,8 @@ use Rattle.format.proofs.Picture.{written-same, paint-other}
 use Rattle.format.proofs.Written.{length-written, pixels-written, pixels-whole, written-over, written-self}
 use Rattle.format.proofs.Marks.{marks-same, ones-most, ones-changed}
 use Rattle.format.proofs.Locality.{Off, paint-off, stored-off}
-use Rattle.format.proofs.Making.{valid-fits, unmade-exact}
+use Rattle.format.proofs.Making.{unmade-exact}
+use Rattle.format.proofs.Valid.{valid-fits}
 
 -- the answer after tests 9 and 22
 

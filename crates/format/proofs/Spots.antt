@@ -2,10 +2,10 @@
 -- and a prediction looks at what it names alone.
 use mathlib.Core.Bool.{Bool, true, false, not}
 use mathlib.Core.List.{List, [], _∷_, map, map-map, map-id}
-use mathlib.Core.Logic.{_⊎_, inl, inr, ⊎-elim, _↔_}
+use mathlib.Core.Logic.{⊎-elim, _↔_}
 use mathlib.Core.Path.{_≡_, refl, sym, ap, _∙_, subst}
 use Prim.Native.Nat.{ℕ, zero, suc, _+_, _-_, _*_, _/_, _%_, _<_, _≤_}
-use native.Mathlib.Nat.{mod-lt, div-lt-iff-lt-mul, not-suc-le-zero}
+use native.Mathlib.Nat.{mod-lt, div-lt-iff-lt-mul}
 use native.Mathlib.Decide.{ℕ-discrete}
 use native.Mathlib.Omega.{arith}
 use borrow.Author.Tests.{ne-eqb, le-leb, lt-leb, eqb-true, eqb-false, not-true, not-false}
@@ -25,14 +25,14 @@ use Rattle.format.specs.Refusals.{chainRefusal}
 use Rattle.format.specs.Made.{modeNames, namedBy, named}
 use Rattle.format.specs.Retouch.{fiveSpots, packedOver, spotsOf, spotRecords}
 use Rattle.format.specs.Calls.{records}
-use Rattle.format.proofs.Choice.{if-same, every-at}
-use Rattle.format.proofs.Indices.{decide, In, Each, in-each}
+use Rattle.format.proofs.Choice.{if-same, every-at, not-every, decide}
+use Rattle.format.proofs.Indices.{In, Each, _and_, in-each}
 use Rattle.format.proofs.ColorTable.{perPixel-pos, column-packed, ceiling-pos}
 use Rattle.format.proofs.ByKind.{narrowed-table, narrowed-other}
 use Rattle.format.proofs.Stages.{width-record}
 use Rattle.format.proofs.Locality.{spots-predictor}
 use Rattle.format.proofs.Valid.{valid-once}
-use Rattle.format.proofs.Making.{_and_, not-every, Fits, valid-fits}
+use Rattle.format.proofs.Valid.{Fits, valid-fits}
 
 -- where items go
 
@@ -40,7 +40,7 @@ use Rattle.format.proofs.Making.{_and_, not-every, Fits, valid-fits}
 abbrev pub placeOf : Step → ℕ → ℕ
 placeOf s q = if eqb (s .kind) 3 then packedOver (s .width) (s .size) q else q
 
--- the item that holds, after the first k records, item q of those after the first t
+-- item q after the first t records is held by this item after the first k
 unfoldable pub placed : (ℕ → Step) → ℕ → ℕ → ℕ → ℕ
 placed steps t zero q = q
 placed steps t (suc k) q = if leb t k then placeOf (steps k) (placed steps t k q) else q
@@ -64,6 +64,7 @@ spots-place s q n = rw (ne-eqb (s .kind) 0 n) (go (eqb (s .kind) 3))
     go true = refl
     go false = refl
 
+-- a union of lists of one is a map
 union-map : (h : ℕ → List ℕ) (f : ℕ → ℕ) → ((q : ℕ) → h q ≡ f q ∷ []) → (qs : List ℕ) → union h qs ≡ map f qs
 union-map h f e [] = refl
 union-map h f e (q ∷ qs) = rw (e q) (ap (λ (l : List ℕ). f q ∷ l) (union-map h f e qs))
@@ -73,7 +74,7 @@ map-same f g e l = ap (λ (h : ℕ → ℕ). map h l) (λ i q. e q i)
 
 -- an item is inside its stage exactly if the item that holds it after a record is
 place-inside : (s : Step) (a b : ℕ) → Fits s a b → (h q : ℕ) → (q < h * a) ↔ (placeOf s q < h * b)
-place-inside s a b fit h q = rw (← fit .before, ← fit .after) (go (ℕ-discrete (s .kind) 3))
+place-inside s a b fit h q = rw (← fit .from, ← fit .to) (go (ℕ-discrete (s .kind) 3))
   where
     w : ℕ
     w = s .width
@@ -106,7 +107,7 @@ from C t a b (suc k) l = go (ℕ-discrete t (suc k)) (from C t a b k)
     go (no n) ih = b k (omega arith) (ih (omega arith))
 
 module _ (steps : ℕ → Step) (t : ℕ) where
-  -- records t to k - 1, none of them the predictor's, carry each spot along
+  -- records t to k - 1, none of them the predictor's, move each spot to the item that holds it
   spots-along : (p k : ℕ) → t ≤ k → ((j : ℕ) → t ≤ j → j < k → steps j .kind ≡ 0 → ⊥) → spotRecords steps k p ≡ map (placed steps t k) (spotRecords steps t p)
   unfolding spotRecords
   spots-along p =
@@ -117,8 +118,6 @@ module _ (steps : ℕ → Step) (t : ℕ) where
       ∙ ap (map (placeOf (steps k))) (ih (λ j i m. n j i (omega arith)))
       ∙ map-map (placeOf (steps k)) (placed steps t k) (spotRecords steps t p)
       ∙ sym (map-same (placed steps t (suc k)) (λ q. placeOf (steps k) (placed steps t k q)) (placed-next steps t k l) (spotRecords steps t p)))
-
-  -- inside and outside
 
   -- an item is inside its stage exactly if the item that holds it later is
   placed-inside : (widths : ℕ → ℕ) (h q k : ℕ) → t ≤ k → ((j : ℕ) → j < k → Fits (steps j) (widths j) (widths (suc j))) → (q < h * widths t) ↔ (placed steps t k q < h * widths k)
@@ -172,7 +171,7 @@ module _ (w h : ℕ) (cs : List ℕ) (n : ℕ) (valid : chainRefusal w h cs n �
       → (q < h * widthAt cs w t) ↔ (placed (stepAt cs w) (suc t) (count cs) q < records w h cs)
   spot-inside t l e q =
       let fit = valid-fits w h cs n valid in
-      let same : widthAt cs w (suc t) ≡ widthAt cs w t = sym (fit t l .after) ∙ narrowed-other (steps t) (λ z. omega arith) ∙ fit t l .before in
+      let same : widthAt cs w (suc t) ≡ widthAt cs w t = sym (fit t l .to) ∙ narrowed-other (steps t) (λ z. omega arith) ∙ fit t l .from in
       rw (← same) (placed-inside steps (suc t) (widthAt cs w) h q (count cs) l fit)
 
 -- predictions

@@ -13,12 +13,12 @@ use Rattle.format.specs.declared.Step.{Step}
 use Rattle.format.specs.declared.Checked.the-variants.{Taken, UnknownKind, KindAgain, NotTabled, WrongLength, BeyondData}
 use Rattle.format.specs.Picture.{byteAt}
 use Rattle.format.specs.Sizes.{Sized}
-use Rattle.format.specs.Chain.{byKind, recordAt, stepAt, count}
+use Rattle.format.specs.Chain.{byKind, recordAt, narrowed, widthAt, stepAt, count}
 use Rattle.format.specs.Refusals.{usedBefore, blocksTabled, greenTabled, tableTabled, tabled, blockBytes, tabledLength, checked, number, _unless_, _before_, recordsRefusal, inRange, wholeRecords, chainRefusal}
 use Rattle.format.specs.ValidStep.{ValidBlocks, ValidTable, ValidStep}
 use Rattle.format.proofs.Choice.{and-left, and-right, every-at}
 use Rattle.format.proofs.ByKind.{byKind-blocks, byKind-3}
-use Rattle.format.proofs.Stages.{KnownKinds}
+use Rattle.format.proofs.Stages.{KnownKinds, widthAt-pos, width-record}
 
 -- refusals in order
 
@@ -152,6 +152,13 @@ used-once cs w k e j l =
     let t = every-at k other j l (not-false (every k other) e) in
     eqb-false (byteAt cs (16 * j)) (byteAt cs (16 * k)) (not-true (eqb (byteAt cs (16 * j)) (byteAt cs (16 * k))) t)
 
+-- a record of a known kind takes columns a wide to columns b wide
+pub record Fits (s : Step) (a b : ℕ) : Type 0 where
+  pub wide : 1 ≤ s .width
+  pub known : s .kind ≤ 3
+  pub from : s .width ≡ a
+  pub to : narrowed s ≡ b
+
 -- the chain
 
 module _ (w h : ℕ) (cs : List ℕ) (n : ℕ) where
@@ -208,3 +215,13 @@ module _ (w h : ℕ) (cs : List ℕ) (n : ℕ) (valid : chainRefusal w h cs n �
   -- no kind twice
   pub valid-once : (k : ℕ) → k < count cs → (j : ℕ) → j < k → stepAt cs w j .kind ≡ stepAt cs w k .kind → ⊥
   valid-once k l = used-once cs w k (valid-passed k l .new)
+
+  -- the records of a valid chain, with the widths before and after them
+  pub valid-fits : (j : ℕ) → j < count cs → Fits (stepAt cs w j) (widthAt cs w j) (widthAt cs w (suc j))
+  unfolding widthAt
+  valid-fits j l = record {
+    wide = rw (width-record cs j (widthAt cs w j)) (widthAt-pos cs w j (valid-sized .wide));
+    known = valid-known j l;
+    from = width-record cs j (widthAt cs w j);
+    to = refl;
+  }

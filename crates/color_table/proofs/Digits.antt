@@ -5,11 +5,12 @@ use mathlib.Core.Path.{_≡_, refl, sym, ap, _∙_}
 use Prim.Native.Nat.{ℕ, zero, suc, _+_, _-_, _*_, _/_, _^_, _<_, _≤_}
 use native.Mathlib.Nat.{add-assoc, mul-add, mul-assoc, one-mul, pow-zero, pow-suc, pow-succ', pow-le-pow-right, mul-le-mul, mul-le-mul-left, mul-suc}
 use native.Mathlib.Omega.{arith}
-use borrow.Author.Tests.{leb-true, le-leb, lt-leb}
+use borrow.Author.Tests.{leb-true, leb-false, le-leb, lt-leb}
 use lib.Dec.{leb, lit<}
+use lib.ListN.{length}
 use Rattle.format.specs.Choice.{if_then_else_}
 use Rattle.format.specs.ColorTable.{perPixel, range, digits}
-use Rattle.color_table.specs.Pack.{Row}
+use Rattle.color_table.specs.Pack.{Row, Few}
 
 -- n indices to the base u go into a byte
 pub record Base (size n u : ℕ) : Type 0 where
@@ -19,21 +20,22 @@ pub record Base (size n u : ℕ) : Type 0 where
   pub some : 1 ≤ n
   pub few : n ≤ 8
   pub whole : u ^ n ≡ 256
-  pub eight : 8 / n * n ≡ 8
+  pub group : 16 / n * n ≡ 16
   pub gap : (n ≡ 8 → ⊥) → (n ≤ 4) × (n ≡ 3 → ⊥)
+  pub pairs : n ≡ 4 → u ≤ size + 1
   pub ones : (x : ℕ) → x < u → (x * (255 / (u - 1)) < 256) × (x * (255 / (u - 1)) ≡ digits u n (λ k. x))
 
 pub base-of : (size n u : ℕ) → size ≤ 256 → n ≡ perPixel size → u ≡ range n → Base size n u
 unfolding perPixel digits
 base-of size n u l p q =
-    rw (q, p) (go (leb size 2) (leb size 4) (leb size 16) (leb-true size 2) (leb-true size 4) (leb-true size 16))
+    rw (q, p) (go (leb size 2) (leb size 4) (leb size 16) (leb-true size 2) (leb-false size 2) (leb-true size 4) (leb-true size 16))
   where
-    go : (a b c : Bool) → (a ≡ true → size ≤ 2) → (b ≡ true → size ≤ 4) → (c ≡ true → size ≤ 16)
+    go : (a b c : Bool) → (a ≡ true → size ≤ 2) → (a ≡ false → 2 < size) → (b ≡ true → size ≤ 4) → (c ≡ true → size ≤ 16)
         → Base size (if a then 8 else if b then 4 else if c then 2 else 1) (range (if a then 8 else if b then 4 else if c then 2 else 1))
-    go true b c x y z = record { fits = x refl; two = lit< tt; most = lit< tt; some = lit< tt; few = lit< tt; whole = refl; eight = refl; gap = λ d. (omega arith, (λ q. omega arith)); ones = λ x h. (omega arith, omega arith) }
-    go false true c x y z = record { fits = y refl; two = lit< tt; most = lit< tt; some = lit< tt; few = lit< tt; whole = refl; eight = refl; gap = λ d. (omega arith, (λ q. omega arith)); ones = λ x h. (omega arith, omega arith) }
-    go false false true x y z = record { fits = z refl; two = lit< tt; most = lit< tt; some = lit< tt; few = lit< tt; whole = refl; eight = refl; gap = λ d. (omega arith, (λ q. omega arith)); ones = λ x h. (omega arith, omega arith) }
-    go false false false x y z = record { fits = l; two = lit< tt; most = lit< tt; some = lit< tt; few = lit< tt; whole = refl; eight = refl; gap = λ d. (omega arith, (λ q. omega arith)); ones = λ x h. (omega arith, omega arith) }
+    go true b c x o y z = record { fits = x refl; two = lit< tt; most = lit< tt; some = lit< tt; few = lit< tt; whole = refl; group = refl; gap = λ d. (omega arith, (λ q. omega arith)); pairs = λ q. omega arith; ones = λ x h. (omega arith, omega arith) }
+    go false true c x o y z = record { fits = y refl; two = lit< tt; most = lit< tt; some = lit< tt; few = lit< tt; whole = refl; group = refl; gap = λ d. (omega arith, (λ q. omega arith)); pairs = λ q. (let t = o refl in omega arith); ones = λ x h. (omega arith, omega arith) }
+    go false false true x o y z = record { fits = z refl; two = lit< tt; most = lit< tt; some = lit< tt; few = lit< tt; whole = refl; group = refl; gap = λ d. (omega arith, (λ q. omega arith)); pairs = λ q. omega arith; ones = λ x h. (omega arith, omega arith) }
+    go false false false x o y z = record { fits = l; two = lit< tt; most = lit< tt; some = lit< tt; few = lit< tt; whole = refl; group = refl; gap = λ d. (omega arith, (λ q. omega arith)); pairs = λ q. omega arith; ones = λ x h. (omega arith, omega arith) }
 
 -- how many indices a record holds, by the table's size
 
@@ -57,6 +59,18 @@ module _ (size : ℕ) where
 -- a row at the number that n is
 pub row-at : (m size w n u : ℕ) (entries row : List ℕ) → n ≡ m → Row size w n u entries row → Row size w m (range m) entries row
 row-at m size w n u entries row q r = record { wide = r .wide; narrow = r .narrow; there = r .there; taken = r .taken; places = sym q ∙ r .places; base = refl }
+
+-- a table of one or two entries
+pub pair-of : (size : ℕ) (entries : List ℕ) → 8 ≡ perPixel size → size ≤ 256 → 1 ≤ size → 4 * size ≤ length entries → Few size 2 entries
+pair-of size entries p m s l = let f = base-of size 8 2 m p refl .fits in record { some = omega arith; most = f; few = omega arith; there = l }
+
+-- a table of three or four entries
+pub few-of : (size n u : ℕ) (entries : List ℕ) → n ≡ 4 → Base size n u → u ≡ range n → 4 * size ≤ length entries → Few size 4 entries
+few-of size n u entries q b r l =
+    let e : u ≡ 4 = rw q at r in
+    let p = b .pairs q in
+    let f = b .fits in
+    record { some = omega arith; most = omega arith; few = omega arith; there = l }
 
 -- digits
 

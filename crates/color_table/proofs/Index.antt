@@ -7,6 +7,7 @@ use native.Mathlib.Nat.{zero-add, add-zero}
 use native.Mathlib.Decide.{ℕ-discrete, decLt}
 use native.Mathlib.Omega.{arith}
 use borrow.Author.Tests.{lt-ltb, le-ltb, ltb-true}
+use lib.Dec.{ltb}
 use lib.ListN.{length, set, length-set, replicate, getD-replicate, length-replicate, List·getD-eq-default}
 use lib.Seq.{getD-set-same, getD-set-other}
 use Rattle.format.specs.declared.Pixel.{Pixel}
@@ -44,6 +45,68 @@ module _ (e : Picture) (v : Pixel) (size : ℕ) where
   unfolding lowest
   scan-end i h q = let k : size - i ≡ 0 = omega arith in sym (h ∙ ap (λ (n : ℕ). lowest e v n i) k ∙ q)
 
+-- comparing with each entry: whether one of the first j is v, and how many come before it
+
+module _ (e : Picture) (v : Pixel) (size : ℕ) (has : indexOf size e v < size) where
+  pub found-more : (j : ℕ) (found s : Bool) (u : Pixel) → found ≡ ltb (indexOf size e v) j → u ≡ e j → s ≡ equal u v → j < size → (found || s) ≡ ltb (indexOf size e v) (j + 1)
+  found-more j found s u h p q l = go (decLt (indexOf size e v) j) (ℕ-discrete (indexOf size e v) j)
+    where
+      other : (b : Bool) → equal (e j) v ≡ b → j < indexOf size e v → b ≡ false
+      other false r m = refl
+      other true r m =
+          let k : indexOf size e v ≤ j = lowest-least e v size 0 j (omega arith) (equal-true (e j) v r) (omega arith) in
+          absurd (omega arith)
+
+      go : Dec (indexOf size e v < j) → Dec (indexOf size e v ≡ j) → (found || s) ≡ ltb (indexOf size e v) (j + 1)
+      go (yes m) d =
+          let a : found ≡ true = h ∙ lt-ltb (indexOf size e v) j m in
+          let b : indexOf size e v < j + 1 = omega arith in
+          rw (a, lt-ltb (indexOf size e v) (j + 1) b)
+      go (no m) (yes r) =
+          let a : found ≡ false = h ∙ le-ltb (indexOf size e v) j (omega arith) in
+          let b : indexOf size e v < j + 1 = omega arith in
+          let c : e (indexOf size e v) ≡ v = lowest-hit e v size 0 (rw (zero-add size) has) in
+          let t : s ≡ true = q ∙ ap (λ (x : Pixel). equal x v) (p ∙ ap e (sym r) ∙ c) ∙ equal-refl v in
+          rw (a, t, lt-ltb (indexOf size e v) (j + 1) b)
+      go (no m) (no r) =
+          let a : found ≡ false = h ∙ le-ltb (indexOf size e v) j (omega arith) in
+          let b : j + 1 ≤ indexOf size e v = omega arith in
+          let t : s ≡ false = q ∙ ap (λ (x : Pixel). equal x v) p ∙ other (equal (e j) v) refl (omega arith) in
+          rw (a, t, le-ltb (indexOf size e v) (j + 1) b)
+
+pub found-none : (i : ℕ) → false ≡ ltb i 0
+found-none i = sym (le-ltb i 0 (omega arith))
+
+-- how many of j entries come before index i
+
+pub before-none : (i : ℕ) → 0 ≡ (if ltb i 0 then i else 0)
+before-none i = rw (le-ltb i 0 (omega arith))
+
+pub unless-small : (t : ℕ) (found : Bool) → t ≡ (if found then 0 else 1) → t ≤ 1
+unless-small t true q = omega arith
+unless-small t false q = omega arith
+
+pub before-more : (i j r t : ℕ) (found : Bool) → r ≡ (if ltb i j then i else j) → found ≡ ltb i (j + 1) → t ≡ (if found then 0 else 1) → (r + t ≡ (if ltb i (j + 1) then i else j + 1)) × (r + t ≤ j + 1)
+before-more i j r t found h q s = go (decLt i j) (decLt i (j + 1))
+  where
+    go : Dec (i < j) → Dec (i < j + 1) → (r + t ≡ (if ltb i (j + 1) then i else j + 1)) × (r + t ≤ j + 1)
+    go (yes a) (yes b) = let x = rw (lt-ltb i j a) at h in let y = rw (q, lt-ltb i (j + 1) b) at s in (rw (lt-ltb i (j + 1) b) (omega arith), omega arith)
+    go (yes a) (no b) = absurd (omega arith)
+    go (no a) (yes b) = let k : j ≤ i = omega arith in let x = rw (le-ltb i j k) at h in let y = rw (q, lt-ltb i (j + 1) b) at s in (rw (lt-ltb i (j + 1) b) (omega arith), omega arith)
+    go (no a) (no b) =
+        let k : j ≤ i = omega arith in
+        let m : j + 1 ≤ i = omega arith in
+        let x = rw (le-ltb i j k) at h in
+        let y = rw (q, le-ltb i (j + 1) m) at s in
+        (rw (le-ltb i (j + 1) m) (omega arith), omega arith)
+
+pub before-all : (i j r : ℕ) → r ≡ (if ltb i j then i else j) → i ≤ j → r ≡ i
+before-all i j r h l = go (decLt i j)
+  where
+    go : Dec (i < j) → r ≡ i
+    go (yes a) = rw (lt-ltb i j a) at h
+    go (no a) = let k : j ≤ i = omega arith in let x = rw (le-ltb i j k) at h in omega arith
+
 -- hints
 
 pub zeros : (n s : ℕ) → byteAt (replicate n 0) s ≡ 0
@@ -65,6 +128,9 @@ module _ (size : ℕ) (e : Picture) where
   own-index i k w q r l =
       let m : indexOf size e w ≤ i = lowest-least e w size 0 i (omega arith) (sym q) (omega arith) in
       omega arith
+
+  pub found-entry : (w : Pixel) (k : ℕ) → k ≡ indexOf size e w → k < size → hasEntry size e w ≡ true
+  found-entry w k q l = lt-ltb (indexOf size e w) size (rw (← q) l)
 
   pub entry-accepted : (i : ℕ) (w : Pixel) → w ≡ e i → i < size → hasEntry size e w ≡ true
   entry-accepted i w q l = lt-ltb (indexOf size e w) size (own-index i (indexOf size e w) w q refl l)
@@ -126,15 +192,23 @@ module _ (u v : Pixel) (f : Picture) (i : ℕ) where
           no : false ≡ true → _≡_ {A = ℕ} 0 1
           no e = cc
 
--- eight pixels more that are v
-pub all-more : (v : Pixel) (f : Picture) (a g : ℕ) → ((q : ℕ) → a ≤ q → q < 8 * g → f q ≡ v) → EachOf v v f (8 * g) 8 → (q : ℕ) → a ≤ q → q < 8 * (g + 1) → f q ≡ v
-all-more v f a g h d q l u = go (decLt q (8 * g))
+-- m pixels more that are u or v
+pub each-next : (u v : Pixel) (f : Picture) (a i m : ℕ) → EachOf u v f a (i - a) → EachOf u v f i m → a ≤ i → EachOf u v f a (i + m - a)
+each-next u v f a i m h d l k j = go (decLt k (i - a))
   where
-    go : Dec (q < 8 * g) → f q ≡ v
+    go : Dec (k < i - a) → oneOf u v (f (a + k)) ≡ true
+    go (yes s) = h k s
+    go (no s) = let e : i + (a + k - i) ≡ a + k = omega arith in rw e at (d (a + k - i) (omega arith))
+
+-- a group more that is v
+pub all-more : (v : Pixel) (f : Picture) (a g : ℕ) → ((q : ℕ) → a ≤ q → q < 16 * g → f q ≡ v) → EachOf v v f (16 * g) 16 → (q : ℕ) → a ≤ q → q < 16 * (g + 1) → f q ≡ v
+all-more v f a g h d q l u = go (decLt q (16 * g))
+  where
+    go : Dec (q < 16 * g) → f q ≡ v
     go (yes k) = h q l k
     go (no k) =
-        let e : 8 * g + (q - 8 * g) ≡ q = omega arith in
-        rw e at (equal-true (f (8 * g + (q - 8 * g))) v (each-passes v v f (8 * g) 8 (λ p. equal p v) d (equal-refl v) (equal-refl v) (q - 8 * g) (omega arith)))
+        let e : 16 * g + (q - 16 * g) ≡ q = omega arith in
+        rw e at (equal-true (f (16 * g + (q - 16 * g))) v (each-passes v v f (16 * g) 16 (λ p. equal p v) d (equal-refl v) (equal-refl v) (q - 16 * g) (omega arith)))
 
 -- acceptance
 
@@ -168,6 +242,9 @@ module _ (size : ℕ) (e f : Picture) where
       let p = each-passes u v f i (suc n) (hasEntry size e) h a b n (omega arith) in
       ap (λ (m : ℕ). accepted size e m f) s ∙ and-both (hasEntry size e (f (i + n))) (accepted size e (i + n) f) p r
 
+  pub accepted-reach : (u v : Pixel) (a i : ℕ) → EachOf u v f a (i - a) → a ≤ i → accepted size e a f ≡ true → hasEntry size e u ≡ true → hasEntry size e v ≡ true → accepted size e i f ≡ true
+  accepted-reach u v a i h l t x y = let s : a + (i - a) ≡ i = omega arith in rw s at (accepted-each u v a (i - a) h t x y)
+
   -- what is refused early stays so
   pub accepted-fewer : (m n : ℕ) → accepted size e m f ≡ false → m ≤ n → false ≡ accepted size e n f
   accepted-fewer m zero h l = let z : m ≡ 0 = omega arith in sym (rw z at h)
@@ -182,6 +259,9 @@ module _ (size : ℕ) (e f : Picture) where
 
   pub accepted-below : (m i : ℕ) → accepted size e m f ≡ true → i < m → indexOf size e (f i) < size
   accepted-below m i h l = ltb-true (indexOf size e (f i)) size (every-at m (λ j. hasEntry size e (f j)) i l h)
+
+  pub column-below : (m i : ℕ) (u : Pixel) → accepted size e m f ≡ true → u ≡ f i → i < m → indexOf size e u < size
+  column-below m i u h p l = rw p (accepted-below m i h l)
 
   pub taken-below : (m x k : ℕ) (u : Pixel) → accepted size e m f ≡ true → u ≡ f x → k ≡ indexOf size e u → x < m → k < size
   taken-below m x k u h p q l = rw (q, p) (accepted-below m x h l)

@@ -25,6 +25,13 @@ pub record Table (size : ℕ) (entries hints : List ℕ) : Type 0 where
   pub there : 4 * size ≤ length entries
   pub hinted : Hints size (pixels entries) hints
 
+-- a table of u entries or one fewer
+pub record Few (size u : ℕ) (entries : List ℕ) : Type 0 where
+  pub some : u ≤ size + 1
+  pub most : size ≤ u
+  pub few : u ≤ 4
+  pub there : 4 * size ≤ length entries
+
 -- the n pixels of f from i on are u or v each
 abbrev pub oneOf : Pixel → Pixel → Pixel → Bool
 oneOf u v p = equal p u || equal p v
@@ -45,10 +52,6 @@ pub record Row (size w n u : ℕ) (entries row : List ℕ) : Type 0 where
 unfoldable pub rowIndices : ℕ → ℕ → Picture → Picture → ℕ → ℕ → ℕ
 rowIndices w size e f a k = if ltb (a + k) w then indexOf size e (f (a + k)) else 0
 
--- the same where a table has two entries, of which v is the first
-unfoldable pub differs : Pixel → Picture → ℕ → ℕ → ℕ
-differs v f a k = if equal v (f (a + k)) then 0 else 1
-
 -- the record of n pixels v
 unfoldable pub uniform : ℕ → ℕ → ℕ → Picture → Pixel → Pixel
 uniform u n size e v = pixel 0 (digits u n (λ k. indexOf size e v)) 0 255
@@ -57,9 +60,9 @@ uniform u n size e v = pixel 0 (digits u n (λ k. indexOf size e v)) 0 255
 unfoldable pub plain : Pixel → Picture
 plain v i = v
 
--- the groups of eight pixels from g up to r are all v, and have the record p, 8 / n times each
+-- the groups of sixteen pixels from g up to r are all v, and have the record p, 16 / n times each
 pub record Filled (n g r groups : ℕ) (v p : Pixel) (f : Picture) (xs ys : List ℕ) : Type 0 where
   pub from : g ≤ r
   pub to : r ≤ groups
-  pub all : (q : ℕ) → 8 * g ≤ q → q < 8 * r → f q ≡ v
-  pub wrote : ys ≡ run pixelCells (given (plain p)) (g * (8 / n)) (r * (8 / n) - g * (8 / n)) xs
+  pub all : (q : ℕ) → 16 * g ≤ q → q < 16 * r → f q ≡ v
+  pub wrote : ys ≡ run pixelCells (given (plain p)) (g * (16 / n)) (r * (16 / n) - g * (16 / n)) xs

@@ -1,30 +1,45 @@
-// Whether pixels have entries. Pictures are runs of few colors, so that eight pixels at a time are compared with the last two colors, and looked up only
-// where one differs.
+// Whether pixels have entries. Pictures are runs of few colors, so that groups of sixteen pixels are compared with the last two colors, and
+// looked up only where one differs.
 use crate::find::find;
 use crate::find::same;
 use pixel::word::word_at;
 ghost use mathlib.Core.Path.{_≡_};
 ghost use mathlib.Core.Bool.{true};
-ghost use Prim.Native.Nat.{_+_, _*_, _%_, _≤_};
+ghost use Prim.Native.Nat.{_+_, _-_, _*_, _%_, _≤_};
 ghost use lib.ListN.{length};
 ghost use Rattle.format.specs.Picture.{pixels};
-ghost use Rattle.format.specs.ColorTable.{accepted};
+ghost use Rattle.format.specs.ColorTable.{hasEntry, accepted};
 ghost use Rattle.pixel.specs.Word.{unword};
 ghost use Rattle.color_table.specs.Pack.{Hints, Table, EachOf};
 
-// Whether each of the eight pixels from i on is a or b: with no branch, so that they are compared at once.
-pub fn eight_of(row: &[u8], i: usize, a: u32, b: u32) -> bool
-    requires { ⌜ 4 * (i + 8) ≤ length (now row) ⌝ }
-    ensures { λ r. ⌜ (r ≡ true → EachOf (unword a) (unword b) (pixels (now (row .entry))) i 8) ⌝ }
+// Whether each of the n pixels from i on is a or b: with no branch, so that they are compared at once.
+pub fn all_of(row: &[u8], i: usize, n: usize, a: u32, b: u32) -> bool
+    requires { ⌜ 4 * (i + n) ≤ length (now row) ⌝ }
+    ensures { λ r. ⌜ (r ≡ true → EachOf (unword a) (unword b) (pixels (now (row .entry))) i n) ⌝ }
 {
     let mut all = true;
     let mut k = 0;
-    while k < 8 {
+    while k < n {
         let w = word_at(row, i + k);
         all = all & (same(w, a) | same(w, b));
         k += 1;
     }
     all
+}
+
+// The first group from `from` on with a pixel that is neither a nor b, or `count`.
+fn pass(row: &[u8], from: usize, count: usize, a: u32, b: u32) -> usize
+    requires { ⌜ (from % 16 ≡ 0) × (count % 16 ≡ 0) × (from ≤ count) × (4 * count ≤ length (now row)) ⌝ }
+    ensures { λ r. ⌜ (r % 16 ≡ 0) × (from ≤ r) × (r ≤ count) × EachOf (unword a) (unword b) (pixels (now (row .entry))) from (r - from) ⌝ }
+{
+    let mut i = from;
+    while i < count {
+        if !all_of(row, i, 16, a, b) {
+            return i;
+        }
+        i += 16;
+    }
+    i
 }
 
 // Whether each of the first `to` pixels has an entry, where those before `from` have.
@@ -51,24 +66,38 @@ fn accept_each(
     true
 }
 
-// The same from the first one on, by eight. a and b are the last two colors; at first they are entries, so that two colors are never looked up.
-fn accept_eights(row: &[u8], count: usize, entries: &[u8], size: usize, hints: &[u8]) -> bool
+// The same of the group from i on, where a has an entry. Most groups are a and the color that follows it.
+fn accept_group(row: &[u8], i: usize, a: u32, entries: &[u8], size: usize, hints: &[u8]) -> bool
     requires { ⌜ Table size (now entries) (now hints) ⌝ }
-    requires { ⌜ (count % 8 ≡ 0) × (4 * count ≤ length (now row)) ⌝ }
+    requires { ⌜ 4 * (i + 16) ≤ length (now row) ⌝ }
+    requires { ⌜ (accepted size (pixels (now entries)) i (pixels (now row)) ≡ true) × (hasEntry size (pixels (now entries)) (unword a) ≡ true) ⌝ }
+    ensures { λ r. ⌜ r ≡ accepted size (pixels (now (entries .entry))) (i + 16) (pixels (now (row .entry))) ⌝ }
+{
+    let c = word_at(row, i + 15);
+    if find(entries, size, hints, c) < size {
+        if all_of(row, i, 16, a, c) {
+            return true;
+        }
+    }
+    accept_each(row, i, i + 16, entries, size, hints)
+}
+
+// The same from the first pixel on, by groups. a and b are the last two colors; at first they are entries, so that two colors are never looked up.
+fn accept_groups(row: &[u8], count: usize, entries: &[u8], size: usize, hints: &[u8]) -> bool
+    requires { ⌜ Table size (now entries) (now hints) ⌝ }
+    requires { ⌜ (count % 16 ≡ 0) × (4 * count ≤ length (now row)) ⌝ }
     ensures { λ r. ⌜ r ≡ accepted size (pixels (now (entries .entry))) count (pixels (now (row .entry))) ⌝ }
 {
     let mut a = word_at(entries, 0);
     let mut b = word_at(entries, size - 1);
-    let mut i = 0;
+    let mut i = pass(row, 0, count, a, b);
     while i < count {
-        if !eight_of(row, i, a, b) {
-            if !accept_each(row, i, i + 8, entries, size, hints) {
-                return false;
-            }
-            b = a;
-            a = word_at(row, i + 7);
+        if !accept_group(row, i, a, entries, size, hints) {
+            return false;
         }
-        i += 8;
+        b = a;
+        a = word_at(row, i + 15);
+        i = pass(row, i + 16, count, a, b);
     }
     true
 }
@@ -79,8 +108,8 @@ pub fn accept(row: &[u8], count: usize, entries: &[u8], size: usize, hints: &[u8
     requires { ⌜ Hints size (pixels (now entries)) (now hints) ⌝ }
     ensures { λ r. ⌜ r ≡ accepted size (pixels (now (entries .entry))) count (pixels (now (row .entry))) ⌝ }
 {
-    let whole = count / 8 * 8;
-    if !accept_eights(row, whole, entries, size, hints) {
+    let whole = count / 16 * 16;
+    if !accept_groups(row, whole, entries, size, hints) {
         return false;
     }
     accept_each(row, whole, count, entries, size, hints)

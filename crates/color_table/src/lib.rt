@@ -1,7 +1,9 @@
 // The color table: unpacking indices in place, and storing a picture as packed indices.
 pub mod accept;
-mod bits;
+mod each;
 pub mod find;
+mod flat;
 pub mod pack;
+mod runs;
 pub mod table;
 pub mod unpack;

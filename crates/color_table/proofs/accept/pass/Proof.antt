@@ -1,0 +1,33 @@
+-- `pass` meets its contract: before each turn the pixels from `from` up to i are a or b.
+use Prim.Native.Nat.{_≤_, _-_, _%_}
+use mathlib.Core.Path.{_≡_}
+use native.Mathlib.Omega.{arith}
+use borrow.Author.Tests.{not-false}
+use Rattle.format.specs.Picture.{pixels}
+use Rattle.pixel.specs.Word.{unword}
+use Rattle.color_table.specs.Pack.{EachOf}
+use Rattle.color_table.proofs.Index.{each-next}
+use Rattle.color_table.proofs.accept.pass.Statement.{statement}
+use Rattle.color_table.proofs.accept.pass.Tie as tie
+
+abbrev Inv-loop : tie.InvT-loop
+Inv-loop row from count a b i₀ i = (i % 16 ≡ 0) × (from ≤ i) × (i ≤ count) × EachOf (unword a) (unword b) (pixels row) from (i - from)
+
+abbrev μ-loop : tie.MeasureT-loop
+μ-loop row from count a b i₀ i = count - i
+
+pub pass-spec : {M : Type 1} → statement M
+pass-spec =
+    tie.close
+    (tie.spec
+    Inv-loop
+    μ-loop
+    (λ c. (omega arith, omega arith, omega arith, (λ k l. absurd (omega arith))))
+    (λ c κs. omega arith)
+    (λ c. c .before .before .before .loop .inv)
+    (λ c. omega arith)
+    (λ c. omega arith)
+    (λ c.
+    let l = c .before .before .before .loop in
+    (omega arith, omega arith, omega arith, each-next _ _ (pixels (c .before .before .before .before .before .args .row .now)) (c .before .before .before .before .before .args .from) (l .i) 16 (l .inv .3) (c .before .all-of .ensures (not-false _ (c .if1 .left))) (l .inv .1)))
+    (λ c. c .before .loop .inv))

@@ -1,0 +1,49 @@
+-- `pack_singles` meets its contract: before each turn the records from `from` up to j are there.
+use mathlib.Core.Path.{_≡_, refl, _∙_}
+use Prim.Native.Nat.{_≤_, _-_}
+use native.Mathlib.Omega.{arith}
+use borrow.Author.Needs.{needs}
+use lib.ListN.{length}
+use Rattle.format.specs.Picture.{pixels}
+use Rattle.format.specs.ColorTable.{packed}
+use Rattle.pixel.specs.Cells.{pixelCells, run, given}
+use Rattle.pixel.proofs.Cells.{run-none, run-done}
+use Rattle.color_table.proofs.Index.{taken-below}
+use Rattle.color_table.proofs.Records.{single-record, given-turn}
+use Rattle.color_table.proofs.each.pack_singles.Statement.{statement}
+use Rattle.color_table.proofs.each.pack_singles.Tie as tie
+
+abbrev Inv-loop : tie.InvT-loop
+Inv-loop row width out₀ from to entries size hints j₀ out j =
+    (from ≤ j) × (j ≤ to) × (length out ≡ length out₀) × (out ≡ run pixelCells (given (packed width size (pixels entries) (pixels row))) from (j - from) out₀)
+
+abbrev μ-loop : tie.MeasureT-loop
+μ-loop row width out₀ from to entries size hints j₀ out j = to - j
+
+pub pack-singles-spec : {M : Type 1} → statement M
+pack-singles-spec =
+    tie.close
+    (tie.spec
+    Inv-loop
+    μ-loop
+    (λ c. (omega arith, omega arith, refl, run-none _ _ _ _))
+    (λ c κs. let row = c .before .before .before .before .before .before .pre .1 .0 in omega arith)
+    (λ c κs. c .before .before .before .before .before .before .before .pre .0)
+    (λ c.
+    let s = c .before .before .before .before .before .before .before .before .before in
+    let i = taken-below _ _ _ (s .args .width) _ _ _ (s .pre .1 .0 .taken) (c .before .before .word-at .ensures) (c .before .find .ensures) (omega arith) in
+    omega (arith, s .pre .0 .most))
+    (λ c κs.
+    let s = c .before .before .before .before .before .before .before .before .before in
+    let i = taken-below _ _ _ (s .args .width) _ _ _ (s .pre .1 .0 .taken) (c .before .before .word-at .ensures) (c .before .find .ensures) (omega arith) in
+    omega (arith, s .pre .0 .most))
+    (λ c κs. omega arith)
+    (λ c. omega arith)
+    (λ c. omega arith)
+    (λ c.
+    let l = c .before .before .before .before .before .before .before .before .loop in
+    let p = c .before .before .put-word in
+    let v = single-record _ _ _ (l .j) _ _ _ _ (c .before .before .before .record-of .ensures) (c .before .before .before .before .before .before .word-at .ensures) (c .before .before .before .before .before .find .ensures) (c .before .before .before .before .before .before .before .before .before .before .before .before .before .pre .1 .0 .places) (omega arith) in
+    (omega arith, omega arith, p .kept .0 ∙ l .inv .2, given-turn _ _ _ _ _ _ _ (l .inv .3) v (p .ensures) (l .inv .0)))
+    (λ c. search needs)
+    (λ c. run-done _ _ _ _ _ _ _ (omega arith) (omega arith) (c .before .loop .inv .3)))

@@ -1,0 +1,24 @@
+-- `fill_run` meets its contract: every arm does.
+use mathlib.Core.Path.{_≡_}
+use Prim.Native.Nat.{ℕ, _*_, _/_, _≤_}
+use native.Mathlib.Omega.{arith}
+use borrow.Author.Needs.{needs}
+use Rattle.color_table.proofs.runs.fill_run.Statement.{statement}
+use Rattle.color_table.proofs.runs.fill_run.Tie as tie
+
+room : (n k g l : ℕ) → n ≡ k → 4 * (g * (16 / n)) ≤ l → 4 * (g * (16 / k)) ≤ l
+room n k g l q h = rw q at h
+
+pub fill-run-spec : {M : Type 1} → statement M
+fill-run-spec =
+    tie.close
+    (tie.spec
+    (λ c κs. let s = c .before .before .before .before in (omega arith, s .pre .1 .0, s .pre .1 .1, room _ 1 _ _ (c .before .if1 .taken) (s .pre .1 .2)))
+    (λ c κs. let s = c .before .before .before .before .before in (omega arith, s .pre .1 .0, s .pre .1 .1, room _ 2 _ _ (c .before .if2 .taken) (s .pre .1 .2)))
+    (λ c κs. let s = c .before .before .before .before .before in let d = s .pre .0 .2 in (omega arith, s .pre .1 .0, s .pre .1 .1, room _ 4 _ _ (omega arith) (s .pre .1 .2)))
+    (λ c. search needs)
+    (λ c. rw (c .before .before .before .before .if1 .taken) (c .before .before .fill-groups .ensures))
+    (λ c. search needs)
+    (λ c. rw (c .before .before .before .before .if2 .taken) (c .before .before .fill-groups2 .ensures))
+    (λ c. search needs)
+    (λ c. let s = c .before .before .before .before .before .before .before .before in let d = s .pre .0 .2 in let q : s .args .n ≡ 4 = omega arith in rw q (c .before .before .fill-groups3 .ensures)))

@@ -192,6 +192,14 @@ module _ (u v : Pixel) (f : Picture) (i : ℕ) where
           no : false ≡ true → _≡_ {A = ℕ} 0 1
           no e = cc
 
+-- eight pixels and eight more
+pub each-both : (u v : Pixel) (f : Picture) (i : ℕ) (s t : Bool) → (s ≡ true → EachOf u v f i 8) → (t ≡ true → EachOf u v f (i + 8) 8) → (s && t) ≡ true → EachOf u v f i 16
+each-both u v f i s t h d r k l = go (decLt k 8)
+  where
+    go : Dec (k < 8) → oneOf u v (f (i + k)) ≡ true
+    go (yes m) = h (and-left s t r) k m
+    go (no m) = let e : i + 8 + (k - 8) ≡ i + k = omega arith in rw e at (d (and-right s t r) (k - 8) (omega arith))
+
 -- m pixels more that are u or v
 pub each-next : (u v : Pixel) (f : Picture) (a i m : ℕ) → EachOf u v f a (i - a) → EachOf u v f i m → a ≤ i → EachOf u v f a (i + m - a)
 each-next u v f a i m h d l k j = go (decLt k (i - a))

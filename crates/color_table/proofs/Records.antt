@@ -41,6 +41,18 @@ single-record w size i j e f v p q r s places l =
     let d : i ≡ digits 256 1 (rowIndices w size e f (j * 1)) = rw (x, lt-ltb j w l, ← r) (s ∙ omega arith) in
     record-row w size e f 1 256 j p (q ∙ ap (λ (b : ℕ). pixel 0 b 0 255) d) places refl (rw (← places) (omega arith))
 
+-- of two
+pub double-record : (w size i k b j : ℕ) (e f : Picture) (u v p : Pixel) → p ≡ pixel 0 b 0 255 → b ≡ i + 16 * k → u ≡ f (2 * j) → v ≡ f (2 * j + 1) → i ≡ indexOf size e u → k ≡ indexOf size e v → 2 ≡ perPixel size → 2 * j + 2 ≤ w
+    → p ≡ packed w size e f j
+unfolding digits rowIndices
+double-record w size i k b j e f u v p q z r s x y places l =
+    let o : j * 2 + 0 ≡ 2 * j = omega arith in
+    let t : j * 2 + 1 ≡ 2 * j + 1 = omega arith in
+    let m : 2 * j < w = omega arith in
+    let n : 2 * j + 1 < w = omega arith in
+    let d : b ≡ digits 16 2 (rowIndices w size e f (j * 2)) = rw (o, t, lt-ltb (2 * j) w m, lt-ltb (2 * j + 1) w n, ← r, ← s, ← x, ← y) (z ∙ omega arith) in
+    record-row w size e f 2 16 j p (q ∙ ap (λ (c : ℕ). pixel 0 c 0 255) d) places refl (rw (← places) (omega arith))
+
 -- one record more
 pub given-turn : (f : Picture) (a i : ℕ) (xs₀ xs ys : List ℕ) (v : Pixel) → xs ≡ run pixelCells (given f) a (i - a) xs₀ → v ≡ f i → ys ≡ putPixel xs i v → a ≤ i → ys ≡ run pixelCells (given f) a (i + 1 - a) xs₀
 given-turn f a i xs₀ xs ys v e q p l =
@@ -74,7 +86,7 @@ uniform-of u n size e v p i b q r s = q ∙ ap (λ (d : ℕ). pixel 0 d 0 255) (
 -- groups of sixteen pixels, m records each
 
 module _ (n m : ℕ) (group : m * n ≡ 16) where
-  pub groups-columns : (g : ℕ) → g * m * n ≡ 16 * g
+  groups-columns : (g : ℕ) → g * m * n ≡ 16 * g
   groups-columns g = mul-assoc g m n ∙ ap (λ (z : ℕ). g * z) group ∙ mul-comm g 16
 
   -- they are inside the row

@@ -12,14 +12,15 @@ ghost use Rattle.format.specs.ColorTable.{hasEntry, accepted};
 ghost use Rattle.pixel.specs.Word.{unword};
 ghost use Rattle.color_table.specs.Pack.{Hints, Table, EachOf};
 
-// Whether each of the n pixels from i on is a or b: with no branch, so that they are compared at once.
-pub fn all_of(row: &[u8], i: usize, n: usize, a: u32, b: u32) -> bool
-    requires { ⌜ 4 * (i + n) ≤ length (now row) ⌝ }
-    ensures { λ r. ⌜ (r ≡ true → EachOf (unword a) (unword b) (pixels (now (row .entry))) i n) ⌝ }
+// Whether each of the eight pixels from i on is a or b: with no branch, so that they are compared at once. A group is two of these, since a function of sixteen pixels
+// is not inlined.
+pub fn eight_of(row: &[u8], i: usize, a: u32, b: u32) -> bool
+    requires { ⌜ 4 * (i + 8) ≤ length (now row) ⌝ }
+    ensures { λ r. ⌜ (r ≡ true → EachOf (unword a) (unword b) (pixels (now (row .entry))) i 8) ⌝ }
 {
     let mut all = true;
     let mut k = 0;
-    while k < n {
+    while k < 8 {
         let w = word_at(row, i + k);
         all = all & (same(w, a) | same(w, b));
         k += 1;
@@ -34,7 +35,7 @@ fn pass(row: &[u8], from: usize, count: usize, a: u32, b: u32) -> usize
 {
     let mut i = from;
     while i < count {
-        if !all_of(row, i, 16, a, b) {
+        if !(eight_of(row, i, a, b) & eight_of(row, i + 8, a, b)) {
             return i;
         }
         i += 16;
@@ -75,7 +76,7 @@ fn accept_group(row: &[u8], i: usize, a: u32, entries: &[u8], size: usize, hints
 {
     let c = word_at(row, i + 15);
     if find(entries, size, hints, c) < size {
-        if all_of(row, i, 16, a, c) {
+        if eight_of(row, i, a, c) & eight_of(row, i + 8, a, c) {
             return true;
         }
     }
@@ -90,14 +91,18 @@ fn accept_groups(row: &[u8], count: usize, entries: &[u8], size: usize, hints: &
 {
     let mut a = word_at(entries, 0);
     let mut b = word_at(entries, size - 1);
-    let mut i = pass(row, 0, count, a, b);
+    let mut i = 0;
     while i < count {
-        if !accept_group(row, i, a, entries, size, hints) {
+        let g = pass(row, i, count, a, b);
+        if count <= g {
+            return true;
+        }
+        if !accept_group(row, g, a, entries, size, hints) {
             return false;
         }
         b = a;
-        a = word_at(row, i + 15);
-        i = pass(row, i + 16, count, a, b);
+        a = word_at(row, g + 15);
+        i = g + 16;
     }
     true
 }

@@ -102,7 +102,7 @@ fn pack_each(
 }
 
 // The same where a record holds one index, so that no sum is made.
-fn pack_singles(
+pub fn pack_singles(
     row: &[u8],
     width: usize,
     out: &mut [u8],
@@ -121,6 +121,31 @@ fn pack_singles(
     while j < to {
         let i = find(entries, size, hints, word_at(row, j));
         put_word(out, j, record_of(i as u32));
+        j += 1;
+    }
+}
+
+// The same where a record holds two, and is inside the row.
+pub fn pack_doubles(
+    row: &[u8],
+    width: usize,
+    out: &mut [u8],
+    from: usize,
+    to: usize,
+    entries: &[u8],
+    size: usize,
+    hints: &[u8],
+)
+    requires { ⌜ Table size (now entries) (now hints) ⌝ }
+    requires { ⌜ Row size width 2 16 (now entries) (now row) ⌝ }
+    requires { ⌜ (from ≤ to) × (2 * to ≤ width) × (4 * to ≤ length (now out)) ⌝ }
+    ensures { λ _. ⌜ now (out .exit) ≡ run pixelCells (given (packedOf width size (pixels (now (entries .entry))) (pixels (now (row .entry))))) from (to - from) (now (out .entry)) ⌝ }
+{
+    let mut j = from;
+    while j < to {
+        let low = find(entries, size, hints, word_at(row, 2 * j));
+        let high = find(entries, size, hints, word_at(row, 2 * j + 1));
+        put_word(out, j, record_of((low + 16 * high) as u32));
         j += 1;
     }
 }

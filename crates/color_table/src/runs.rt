@@ -1,6 +1,7 @@
 // Storing by runs: sixteen pixels at a time are compared with the one before them, and packed one by one only where they differ.
-use crate::accept::all_of;
-use crate::each::pack_records;
+use crate::accept::eight_of;
+use crate::each::pack_doubles;
+use crate::each::pack_singles;
 use crate::each::record_of;
 use crate::find::find;
 use crate::flat::put_pairs;
@@ -68,7 +69,9 @@ fn fill_groups(row: &[u8], out: &mut [u8], groups: usize, n: usize, last: Last) 
     let m = 16 / n;
     let mut g = last.groups;
     while g < groups {
-        if !all_of(row, 16 * g, 16, last.word, last.word) {
+        let x = 16 * g;
+        let w = last.word;
+        if !(eight_of(row, x, w, w) & eight_of(row, x + 8, w, w)) {
             return g;
         }
         fill(out, g * m, m, last.packed);
@@ -92,12 +95,12 @@ fn fill_run(row: &[u8], out: &mut [u8], groups: usize, n: usize, last: Last) -> 
     }
 }
 
-// A group's records. Those of two bits an index are compared at once.
+// The records of group g. Those of two bits an index are compared at once, the others looked up.
 fn pack_group(
     row: &[u8],
     width: usize,
     out: &mut [u8],
-    j: usize,
+    g: usize,
     n: usize,
     range: usize,
     entries: &[u8],
@@ -106,24 +109,17 @@ fn pack_group(
 )
     requires { ⌜ Table size (now entries) (now hints) ⌝ }
     requires { ⌜ Row size width n range (now entries) (now row) ⌝ }
-    requires { ⌜ (j * n + 16 ≤ width) × (j + 16 / n ≤ packedWidth size width) × (4 * (j + 16 / n) ≤ length (now out)) ⌝ }
-    ensures { λ _. ⌜ now (out .exit) ≡ run pixelCells (given (packedOf width size (pixels (now (entries .entry))) (pixels (now (row .entry))))) j (16 / n) (now (out .entry)) ⌝ }
+    requires { ⌜ (n ≡ 8 → ⊥) × (16 * (g + 1) ≤ width) × (4 * ((g + 1) * (16 / n)) ≤ length (now out)) ⌝ }
+    ensures { λ _. ⌜ now (out .exit) ≡ run pixelCells (given (packedOf width size (pixels (now (entries .entry))) (pixels (now (row .entry))))) (g * (16 / n)) (16 / n) (now (out .entry)) ⌝ }
 {
     if n == 4 {
-        put_pairs(row, width, out, j, entries, size);
+        put_pairs(row, width, out, g * 4, entries, size);
+    } else if n == 2 {
+        let j = g * 8;
+        pack_doubles(row, width, out, j, j + 8, entries, size, hints);
     } else {
-        pack_records(
-            row,
-            width,
-            out,
-            j,
-            j + 16 / n,
-            n,
-            range,
-            entries,
-            size,
-            hints,
-        );
+        let j = g * 16;
+        pack_singles(row, width, out, j, j + 16, entries, size, hints);
     }
 }
 
@@ -154,9 +150,18 @@ fn pack_run(
             packed: last.packed,
         };
     }
-    let j = g * (16 / n);
-    pack_group(row, width, out, j, n, range, entries, size, hints);
-    last_of(row, width, g + 1, 16 * g + 15, n, range, entries, size, hints)
+    pack_group(row, width, out, g, n, range, entries, size, hints);
+    last_of(
+        row,
+        width,
+        g + 1,
+        16 * g + 15,
+        n,
+        range,
+        entries,
+        size,
+        hints,
+    )
 }
 
 // The row's groups, and how many records they are.

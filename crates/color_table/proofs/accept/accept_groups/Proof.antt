@@ -29,23 +29,17 @@ accept-groups-spec =
     (λ c κs. omega arith)
     (λ c. omega arith)
     (λ c κs. omega arith)
+    (λ c. (refl, omega arith, refl, entry-accepted _ _ 0 _ (c .before .word-at .ensures) (omega arith), entry-accepted _ _ (c .before .before .before .before .before .args .size - 1) _ (c .word-at2 .ensures) (omega arith)))
     (λ c κs. omega arith)
-    (λ c.
-    let x = entry-accepted _ _ 0 _ (c .before .before .word-at .ensures) (omega arith) in
-    let y = entry-accepted _ _ (c .before .before .before .before .before .before .args .size - 1) _ (c .before .word-at2 .ensures) (omega arith) in
-    let p = c .pass .ensures in
-    (p .0, p .2, accepted-reach _ _ _ _ _ 0 _ (p .3) (p .1) refl x y, x, y))
-    (λ c κs. (c .before .before .before .before .before .before .before .before .pre .0, (omega arith, (c .before .loop .inv .2, c .before .loop .inv .3))))
-    (λ c. accepted-fewer _ _ _ (c .before .before .before .loop .i + 16) (c .before .before .before .before .before .before .before .before .before .before .args .count) (sym (c .before .accept-group .ensures) ∙ not-true _ (c .if1 .taken)) (omega arith))
+    (λ c. let l = c .before .before .before .loop in let p = c .before .pass .ensures in accepted-done _ _ _ (c .before .pass .result) (c .before .before .before .before .before .before .before .before .before .args .count) (accepted-reach _ _ _ _ _ (l .i) (c .before .pass .result) (p .3) (p .1) (l .inv .2) (l .inv .3) (l .inv .4)) (omega arith))
+    (λ c κs. let l = c .before .before .before .loop in let p = c .before .pass .ensures in (c .before .before .before .before .before .before .before .before .before .pre .0, (omega arith, (accepted-reach _ _ _ _ _ (l .i) (c .before .pass .result) (p .3) (p .1) (l .inv .2) (l .inv .3) (l .inv .4), l .inv .3))))
+    (λ c. accepted-fewer _ _ _ (c .before .before .before .pass .result + 16) (c .before .before .before .before .before .before .before .before .before .before .before .args .count) (sym (c .before .accept-group .ensures) ∙ not-true _ (c .if2 .taken)) (omega arith))
     (λ c. omega arith)
     (λ c κs. omega arith)
     (λ c. omega arith)
-    (λ c κs. omega arith)
-    (λ c. let p = c .pass2 .ensures in omega arith)
+    (λ c. let p = c .before .before .before .before .pass .ensures in omega arith)
     (λ c.
-    let l = c .before .before .before .before .before .loop in
-    let t = sym (c .before .before .before .accept-group .ensures) ∙ not-false _ (c .before .before .if1 .left) in
-    let x = taken-entry _ _ _ (l .i + 16) (l .i + 15) _ t (c .before .word-at3 .ensures) (omega arith) in
-    let p = c .pass2 .ensures in
-    (p .0, p .2, accepted-reach _ _ _ _ _ (l .i + 16) _ (p .3) (p .1) t x (l .inv .3), x, l .inv .3))
-    (λ c. let l = c .before .loop in accepted-done _ _ _ (l .i) (c .before .before .before .before .before .before .before .before .args .count) (l .inv .2) (omega arith)))
+    let g = c .before .before .before .before .pass .result in
+    let t = sym (c .before .before .accept-group .ensures) ∙ not-false _ (c .before .if2 .left) in
+    (omega arith, omega arith, t, taken-entry _ _ _ (g + 16) (g + 15) _ t (c .word-at3 .ensures) (omega arith), c .before .before .before .before .before .before .loop .inv .3))
+    (λ c. let l = c .before .loop in accepted-done _ _ _ (l .i) (c .before .before .before .before .before .before .before .args .count) (l .inv .2) (omega arith)))

@@ -6,7 +6,7 @@ use borrow.Author.Tests.{not-false}
 use Rattle.format.specs.Picture.{pixels}
 use Rattle.pixel.specs.Word.{unword}
 use Rattle.color_table.specs.Pack.{EachOf}
-use Rattle.color_table.proofs.Index.{each-next}
+use Rattle.color_table.proofs.Index.{each-both, each-next}
 use Rattle.color_table.proofs.accept.pass.Statement.{statement}
 use Rattle.color_table.proofs.accept.pass.Tie as tie
 
@@ -24,10 +24,14 @@ pass-spec =
     μ-loop
     (λ c. (omega arith, omega arith, omega arith, (λ k l. absurd (omega arith))))
     (λ c κs. omega arith)
-    (λ c. c .before .before .before .loop .inv)
+    (λ c. omega arith)
+    (λ c κs. omega arith)
+    (λ c. c .before .before .before .before .loop .inv)
     (λ c. omega arith)
     (λ c. omega arith)
     (λ c.
-    let l = c .before .before .before .loop in
-    (omega arith, omega arith, omega arith, each-next _ _ (pixels (c .before .before .before .before .before .args .row .now)) (c .before .before .before .before .before .args .from) (l .i) 16 (l .inv .3) (c .before .all-of .ensures (not-false _ (c .if1 .left))) (l .inv .1)))
+    let s = c .before .before .before .before .before .before in
+    let l = c .before .before .before .before .loop in
+    let b = each-both (unword (s .args .a)) (unword (s .args .b)) (pixels (s .args .row .now)) (l .i) _ _ (c .before .before .eight-of .ensures) (c .before .eight-of2 .ensures) (not-false _ (c .if1 .left)) in
+    (omega arith, omega arith, omega arith, each-next _ _ (pixels (s .args .row .now)) (s .args .from) (l .i) 16 (l .inv .3) b (l .inv .1)))
     (λ c. c .before .loop .inv))

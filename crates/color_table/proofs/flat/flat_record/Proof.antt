@@ -6,7 +6,7 @@ use native.Mathlib.Omega.{arith}
 use Rattle.format.specs.Pixel.{pixel}
 use Rattle.format.specs.Picture.{pixels}
 use Rattle.format.specs.ColorTable.{digits}
-use Rattle.color_table.specs.Pack.{Few, rowIndices}
+use Rattle.color_table.specs.Pack.{rowIndices}
 use Rattle.color_table.proofs.Index.{column-below, row-inside}
 use Rattle.color_table.proofs.Digits.{Base, base-of, digits-none, digits-more, weight-more, weight-small, small-more, small-product}
 use Rattle.color_table.proofs.flat.flat_record.Statement.{statement}

@@ -1,6 +1,5 @@
 -- `pack_by` meets its contract: the front, and the records after it.
 use mathlib.Core.Path.{_≡_, refl}
-use Prim.Native.Nat.{_≤_}
 use native.Mathlib.Omega.{arith}
 use borrow.Author.Needs.{needs}
 use Rattle.format.specs.ColorTable.{packedWidth}

@@ -1,5 +1,4 @@
 -- `pack_front` meets its contract: both ways do.
-use native.Mathlib.Omega.{arith}
 use borrow.Author.Needs.{needs}
 use Rattle.color_table.proofs.Digits.{row-at, pair-of}
 use Rattle.color_table.proofs.pack.pack_front.Statement.{statement}

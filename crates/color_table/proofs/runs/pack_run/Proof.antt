@@ -2,17 +2,17 @@
 use mathlib.Core.List.{List}
 use mathlib.Core.Path.{_≡_, _∙_}
 use Prim.Native.Nat.{ℕ, _+_, _-_, _*_, _/_, _<_, _≤_}
+use native.Mathlib.Nat.{mul-le-mul-right}
 use native.Mathlib.Omega.{arith}
 use borrow.Author.Needs.{needs}
 use Rattle.format.specs.Picture.{pixels}
-use Rattle.format.specs.ColorTable.{packedWidth, packed}
+use Rattle.format.specs.ColorTable.{packed}
 use Rattle.pixel.specs.Cells.{pixelCells, run, given}
 use Rattle.pixel.specs.Word.{unword}
-use Rattle.pixel.proofs.Blocks.{row-there}
 use Rattle.pixel.proofs.Given.{given-same}
 use Rattle.color_table.specs.Pack.{Filled}
 use Rattle.color_table.proofs.Digits.{Base, base-of}
-use Rattle.color_table.proofs.Records.{groups-columns, groups-inside, groups-whole, record-again, group-next}
+use Rattle.color_table.proofs.Records.{groups-whole, record-again, group-next}
 use Rattle.color_table.proofs.runs.pack_run.Statement.{statement}
 use Rattle.color_table.proofs.runs.pack_run.Tie as tie
 
@@ -31,12 +31,8 @@ module _ (s : tie.Start) where
       ∙ given-same _ _ _ _ _ (λ q l u. record-again _ _ (base .group) _ _ _ (s .args .last .groups) r q _ _ _ _ (h .all) (s .pre .1 .1 .1) (row .places) (row .base) (base .some) (omega arith) l (omega arith))
 
   -- the group after them is inside
-  turn : (g : ℕ) → g < s .args .groups
-      → (g * (16 / s .args .n) + 16 / s .args .n ≤ s .args .groups * (16 / s .args .n)) × (g * (16 / s .args .n) + 16 / s .args .n ≤ packedWidth (s .args .size) (s .args .width))
-  turn g l =
-      let r = row-there (16 / s .args .n) (s .args .groups) g l in
-      let i = groups-inside _ _ (base .group) (s .args .width) (s .args .size) (s .args .groups) (s .pre .1 .0 .places) (base .some) (s .pre .1 .1 .0 .2) in
-      (r, omega arith)
+  turn : (g : ℕ) → g < s .args .groups → (g + 1) * (16 / s .args .n) ≤ s .args .groups * (16 / s .args .n)
+  turn g l = mul-le-mul-right {m = g + 1} {n = s .args .groups} (16 / s .args .n) (omega arith)
 
 pub pack-run-spec : {M : Type 1} → statement M
 pack-run-spec =
@@ -45,14 +41,7 @@ pack-run-spec =
     (λ c κs. let s = c .before .before .before .before .before in let b = base s in let g = b .gap (s .pre .1 .1 .0 .0) in let t = s .pre .1 .0 .there in ((b .some, g .0, g .1), (omega arith, omega arith, s .pre .1 .1 .0 .3)))
     (λ c. search needs)
     (λ c. let f = c .before .before .before .fill-run .ensures in (omega arith, f .to, c .before .before .before .before .before .before .before .before .before .pre .1 .1 .1, filled (c .before .before .before .before .before .before .before .before .before) _ _ _ f))
-    (λ c. let b = base (c .before .before .before .before .before .before .before .before .before) in omega arith)
-    (λ c. let r = turn (c .before .before .before .before .before .before .before .before .before) (c .before .before .before .fill-run .result) (omega arith) in omega arith)
-    (λ c κs.
-    let s = c .before .before .before .before .before .before .before .before .before .before in
-    let g = c .before .before .before .before .fill-run .result in
-    let r = turn s g (omega arith) in
-    let k = groups-columns _ _ (base s .group) g in
-    (s .pre .0, (s .pre .1 .0, (omega arith, r .1, omega arith))))
+    (λ c κs. let s = c .before .before .before .before .before .before .before .before .before .before in let r = turn s (c .before .before .before .before .fill-run .result) (omega arith) in (s .pre .0, (s .pre .1 .0, (s .pre .1 .1 .0 .0, omega arith, omega arith))))
     (λ c. omega arith)
     (λ c. omega arith)
     (λ c. omega arith)

@@ -1,4 +1,4 @@
--- `all_of` meets its contract: where `all` is true, the first k pixels are a or b.
+-- `eight_of` meets its contract: where `all` is true, the first k pixels are a or b.
 use mathlib.Core.Bool.{true}
 use mathlib.Core.Path.{_≡_}
 use Prim.Native.Nat.{_≤_, _-_}
@@ -8,17 +8,17 @@ use Rattle.format.specs.Picture.{pixels}
 use Rattle.pixel.specs.Word.{unword}
 use Rattle.color_table.specs.Pack.{EachOf}
 use Rattle.color_table.proofs.Index.{each-more}
-use Rattle.color_table.proofs.accept.all_of.Statement.{statement}
-use Rattle.color_table.proofs.accept.all_of.Tie as tie
+use Rattle.color_table.proofs.accept.eight_of.Statement.{statement}
+use Rattle.color_table.proofs.accept.eight_of.Tie as tie
 
 abbrev Inv-loop : tie.InvT-loop
-Inv-loop row i n a b all₀ k₀ all k = (k ≤ n) × (all ≡ true → EachOf (unword a) (unword b) (pixels row) i k)
+Inv-loop row i a b all₀ k₀ all k = (k ≤ 8) × (all ≡ true → EachOf (unword a) (unword b) (pixels row) i k)
 
 abbrev μ-loop : tie.MeasureT-loop
-μ-loop row i n a b all₀ k₀ all k = n - k
+μ-loop row i a b all₀ k₀ all k = 8 - k
 
-pub all-of-spec : {M : Type 1} → statement M
-all-of-spec =
+pub eight-of-spec : {M : Type 1} → statement M
+eight-of-spec =
     tie.close
     (tie.spec
     Inv-loop
@@ -31,4 +31,4 @@ all-of-spec =
     (λ c. omega arith)
     (λ c. omega arith)
     (λ c. (omega arith, each-more (unword (c .before .before .before .before .before .before .args .a)) (unword (c .before .before .before .before .before .before .args .b)) (pixels (c .before .before .before .before .before .before .args .row .now)) (c .before .before .before .before .before .before .args .i) (c .before .before .before .before .loop .k) _ _ _ _ (c .before .before .before .before .loop .inv .1) (c .before .before .word-at .ensures) (c .before .same .ensures) (c .same2 .ensures)))
-    (λ c. let k : c .before .loop .k ≡ c .before .before .before .args .n = omega arith in rw k at (c .before .loop .inv .1)))
+    (λ c. let k : c .before .loop .k ≡ 8 = omega arith in rw k at (c .before .loop .inv .1)))

@@ -1,5 +1,9 @@
 //! Chains: the records of the transforms, and the data that they name.
 
+mod step;
+
+pub(crate) use step::Step;
+
 use crate::{rebuild_in_place, Error, Pixel, Refusal, Size};
 
 /// Bytes of a record.
@@ -106,14 +110,19 @@ impl Chain {
 
     /// The size of the strips: the current width after the last record, and the picture's height.
     pub fn strip_size(&self) -> Size {
-        let records = self.records.chunks_exact(RECORD);
-        let width = records.fold(self.size.width, |width, record| {
-            if record[0] != Kind::ColorTable as u8 {
-                return width;
-            }
-            width.div_ceil(indices(u16::from_le_bytes([record[2], record[3]])))
-        });
+        let last = self.steps().last();
+        let width = last.map_or(self.size.width, |step| step.width_after());
         Size::new(width, self.size.height)
+    }
+
+    /// The records in order, each with the current width at its turn.
+    pub(crate) fn steps(&self) -> impl Iterator<Item = Step> + '_ {
+        let records = self.records.chunks_exact(RECORD);
+        records.scan(self.size.width, |width, record| {
+            let step = Step::read(record, *width);
+            *width = step.width_after();
+            Some(step)
+        })
     }
 
     /// How many blocks a predictor or color transform takes that is added next: columns and rows.
@@ -151,16 +160,6 @@ fn part(offset: usize, length: usize) -> (u32, u32) {
     match (offset.try_into(), length.try_into()) {
         (Ok(offset), Ok(length)) => (offset, length),
         _ => (0, u32::MAX),
-    }
-}
-
-/// How many indices a packed pixel holds under a table of this size.
-fn indices(size: u16) -> u32 {
-    match size {
-        0..=2 => 8,
-        3..=4 => 4,
-        5..=16 => 2,
-        _ => 1,
     }
 }
 

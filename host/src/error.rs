@@ -3,7 +3,7 @@
 use crate::{Refusal, Size};
 use std::fmt;
 
-/// Why a call gave no result. Lent buffers are as they were.
+/// Why a call gave no result. Lent buffers are as they were, unless the answer was unknown.
 #[derive(Clone, Copy, Debug, PartialEq, Eq)]
 #[non_exhaustive]
 pub enum Error {
@@ -77,7 +77,12 @@ pub(crate) fn accepted(answer: u32) -> Result<(), Error> {
     if answer == 0 {
         return Ok(());
     }
-    Err(Refusal::from_number(answer).map_or(Error::UnknownAnswer(answer), Error::Refused))
+    Err(refused(answer))
+}
+
+/// What an answer means that accepts nothing.
+pub(crate) fn refused(answer: u32) -> Error {
+    Refusal::from_number(answer).map_or(Error::UnknownAnswer(answer), Error::Refused)
 }
 
 #[cfg(test)]
@@ -90,7 +95,7 @@ mod tests {
         for refusal in Refusal::ALL {
             assert_eq!(accepted(refusal.number()), Err(Error::Refused(refusal)));
         }
-        for unknown in [9, 11, 20, 22, 255, 256, u32::MAX] {
+        for unknown in [11, 20, 23, 255, 256, u32::MAX] {
             assert_eq!(accepted(unknown), Err(Error::UnknownAnswer(unknown)));
             let text = Error::UnknownAnswer(unknown).to_string();
             assert!(text.contains(&unknown.to_string()), "{text}");

@@ -3,16 +3,21 @@
 
 pub mod calls;
 mod chain;
+mod changed_records;
 mod error;
 mod picture;
 mod pixel;
 mod refusal;
+mod spots;
+mod stored_picture;
 
 pub use chain::Chain;
+pub use changed_records::ChangedRecords;
 pub use error::Error;
-pub use picture::{Picture, Size, Strip};
+pub use picture::{Picture, Point, Size, Strip};
 pub use pixel::Pixel;
 pub use refusal::Refusal;
+pub use stored_picture::StoredPicture;
 
 use error::accepted;
 
@@ -76,6 +81,45 @@ pub fn store_into(chain: &Chain, picture: &[u8], strip: &mut [u8]) -> Result<(),
             strip.len(),
         )
     })
+}
+
+/// Paints a pixel of the picture at the front of one buffer, and makes the records of its spots in the
+/// strip at the front of another afresh. Either buffer may be longer; bytes beyond stay.
+///
+/// Where the strip is the picture stored, it is so after the call too. Where it is not, records away
+/// from the spots stay as they are: [`StoredPicture`] holds two that match.
+pub fn retouch_in_place(
+    chain: &Chain,
+    picture: &mut [u8],
+    strip: &mut [u8],
+    point: Point,
+    color: Pixel,
+) -> Result<ChangedRecords, Error> {
+    let Size { width, height } = chain.size();
+    let (records, data) = (chain.records(), chain.data());
+    // SAFETY: each pointer and length are those of a slice, and the slices that are written are lent
+    // to nobody else.
+    let answer = unsafe {
+        calls::letchwater_retouch(
+            width,
+            height,
+            records.as_ptr(),
+            records.len(),
+            data.as_ptr(),
+            data.len(),
+            picture.as_mut_ptr(),
+            picture.len(),
+            strip.as_mut_ptr(),
+            strip.len(),
+            point.x,
+            point.y,
+            color.red,
+            color.green,
+            color.blue,
+            color.alpha,
+        )
+    };
+    ChangedRecords::read(answer, chain, point)
 }
 
 /// The finished entries of a color map as it stands in the file, where each but the first is given

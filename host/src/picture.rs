@@ -1,4 +1,4 @@
-//! Sizes, pictures and strips.
+//! Sizes, points, pictures and strips.
 
 use crate::pixel::pixels;
 use crate::{Error, Pixel};
@@ -34,6 +34,29 @@ impl Size {
 impl fmt::Display for Size {
     fn fmt(&self, f: &mut fmt::Formatter<'_>) -> fmt::Result {
         write!(f, "{} by {}", self.width, self.height)
+    }
+}
+
+/// A place in a picture: its column and its row, both from 0. Any two numbers can be said: the library
+/// refuses a point outside.
+#[derive(Clone, Copy, Debug, PartialEq, Eq, Hash)]
+pub struct Point {
+    /// The column.
+    pub x: u32,
+    /// The row.
+    pub y: u32,
+}
+
+impl Point {
+    /// Column `x` of row `y`.
+    pub const fn new(x: u32, y: u32) -> Self {
+        Self { x, y }
+    }
+}
+
+impl fmt::Display for Point {
+    fn fmt(&self, f: &mut fmt::Formatter<'_>) -> fmt::Result {
+        write!(f, "column {}, row {}", self.x, self.y)
     }
 }
 
@@ -85,6 +108,10 @@ impl Picture {
     pub fn into_bytes(self) -> Vec<u8> {
         self.bytes
     }
+
+    pub(crate) fn as_bytes_mut(&mut self) -> &mut [u8] {
+        &mut self.bytes
+    }
 }
 
 /// A strip: the records of a picture that a chain leaves for the entropy coder, each four bytes
@@ -107,6 +134,12 @@ impl Strip {
         self.size
     }
 
+    /// The record of this index, counted row by row from 0; none past the last.
+    pub fn record(&self, index: usize) -> Option<Pixel> {
+        let start = index.checked_mul(4)?;
+        pixels(self.bytes.get(start..)?).next()
+    }
+
     /// Its records, row by row.
     pub fn records(&self) -> impl ExactSizeIterator<Item = Pixel> + '_ {
         pixels(&self.bytes)
@@ -120,6 +153,10 @@ impl Strip {
     /// Its bytes, row by row.
     pub fn into_bytes(self) -> Vec<u8> {
         self.bytes
+    }
+
+    pub(crate) fn as_bytes_mut(&mut self) -> &mut [u8] {
+        &mut self.bytes
     }
 }
 
@@ -167,5 +204,17 @@ mod tests {
         assert_eq!(picture.pixel(0, 2), None);
         let again = Picture::from_pixels(picture.size(), picture.pixels());
         assert_eq!(again, Ok(picture));
+    }
+
+    #[test]
+    fn records_stand_row_by_row() {
+        let strip = Strip::from_bytes(Size::new(3, 2), (0..24).collect()).unwrap();
+        for (index, record) in strip.records().enumerate() {
+            assert_eq!(strip.record(index), Some(record));
+        }
+        assert_eq!(strip.record(5), Some(Pixel::new(20, 21, 22, 23)));
+        for past in [6, 7, usize::MAX / 4 + 1, usize::MAX] {
+            assert_eq!(strip.record(past), None);
+        }
     }
 }

@@ -4,8 +4,8 @@ use std::fmt;
 
 /// Why the library refused a call. A refused call has changed no byte.
 ///
-/// The library tests 1 and 2, then 3 to 7 on each record of the chain in turn, then 8 and 21, and
-/// answers the first that applies.
+/// The library tests 1 and 2, then 3 to 7 on each record of the chain in turn, then 8, 9, and 21 or
+/// 22, and answers the first that applies.
 #[derive(Clone, Copy, Debug, PartialEq, Eq, Hash)]
 #[non_exhaustive]
 pub enum Refusal {
@@ -25,15 +25,19 @@ pub enum Refusal {
     BeyondData,
     /// 8: a buffer is too short.
     BufferTooShort,
+    /// 9: retouching, the point is outside the picture.
+    PointOutside,
     /// 10: the length of a color map.
     ColorMapLength,
     /// 21: storing, a pixel that reaches the color table has no entry.
     NoEntry,
+    /// 22: retouching, a pixel that would then reach the color table has no entry.
+    NoEntryForRetouch,
 }
 
 impl Refusal {
     /// Every refusal, in the order of the numbers.
-    pub const ALL: [Self; 10] = [
+    pub const ALL: [Self; 12] = [
         Self::SizeOutOfRange,
         Self::ChainLength,
         Self::UnknownKind,
@@ -42,8 +46,10 @@ impl Refusal {
         Self::WrongLength,
         Self::BeyondData,
         Self::BufferTooShort,
+        Self::PointOutside,
         Self::ColorMapLength,
         Self::NoEntry,
+        Self::NoEntryForRetouch,
     ];
 
     /// The number that the library answers.
@@ -57,8 +63,10 @@ impl Refusal {
             Self::WrongLength => 6,
             Self::BeyondData => 7,
             Self::BufferTooShort => 8,
+            Self::PointOutside => 9,
             Self::ColorMapLength => 10,
             Self::NoEntry => 21,
+            Self::NoEntryForRetouch => 22,
         }
     }
 
@@ -78,7 +86,7 @@ impl Refusal {
             Self::UnknownKind => {
                 "a record of the chain has a kind over 3, which is no kind of transform"
             }
-            Self::KindAgain => "the chain has two records of the same kind",
+            Self::KindAgain => "the chain has two records of the same kind, and may have one of each",
             Self::NotTabled => {
                 "a record of the chain has a field that does not fit its kind: predictor and color \
                  take bits 2 to 9, a color table takes 1 to 256 entries, and what a kind does not \
@@ -90,10 +98,19 @@ impl Refusal {
             }
             Self::BeyondData => "a record of the chain names data beyond the end of the data given",
             Self::BufferTooShort => "a buffer is too short for the picture or for the strip",
+            Self::PointOutside => {
+                "the point is outside the picture: columns and rows count from 0, and end before the \
+                 picture's width and height"
+            }
             Self::ColorMapLength => "a color map has 4 to 1024 bytes, 4 for each entry",
             Self::NoEntry => {
                 "the picture cannot be stored with this chain: a pixel that reaches the color table \
-                 has no entry there"
+                 has no entry there; give the table an entry for it"
+            }
+            Self::NoEntryForRetouch => {
+                "the pixel cannot take this color: what would then reach the color table has no entry \
+                 there; choose another color, or store the painted picture with a table that has the \
+                 entry"
             }
         }
     }
@@ -114,7 +131,7 @@ mod tests {
     #[test]
     fn numbers_are_those_of_document_01() {
         let numbers = Refusal::ALL.map(Refusal::number);
-        assert_eq!(numbers, [1, 2, 3, 4, 5, 6, 7, 8, 10, 21]);
+        assert_eq!(numbers, [1, 2, 3, 4, 5, 6, 7, 8, 9, 10, 21, 22]);
     }
 
     #[test]

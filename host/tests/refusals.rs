@@ -1,9 +1,9 @@
 //! Every refusal, through the calls: its number, and that no byte was changed.
 
 use letchwater::{
-    adjust_color_map, adjust_color_map_in_place, rebuild, rebuild_in_place, store, store_into,
-    unadjust_color_map, unadjust_color_map_in_place, Chain, Error, Picture, Pixel, Refusal, Size,
-    Strip,
+    adjust_color_map, adjust_color_map_in_place, rebuild, rebuild_in_place, retouch_in_place,
+    store, store_into, unadjust_color_map, unadjust_color_map_in_place, Chain, Error, Picture,
+    Pixel, Point, Refusal, Size, StoredPicture, Strip,
 };
 
 const SIZE: Size = Size::new(9, 2);
@@ -21,12 +21,13 @@ fn record(record: [u8; 16], data: usize) -> Chain {
     Chain::from_parts(SIZE, record.to_vec(), vec![0; data])
 }
 
-/// Both calls, with buffers that would do for any chain.
+/// Every call, with buffers that would do for any chain.
 fn refuses(chain: &Chain, refusal: Refusal) {
     let refused = Err(Error::Refused(refusal));
     assert_eq!(chain.check(), refused);
     refuses_to_rebuild(chain, PICTURE, refusal);
     refuses_to_store(chain, PICTURE, PICTURE, refusal);
+    refuses_to_retouch(chain, PICTURE, PICTURE, refusal);
 }
 
 fn refuses_to_rebuild(chain: &Chain, image: usize, refusal: Refusal) {
@@ -42,6 +43,17 @@ fn refuses_to_store(chain: &Chain, picture: usize, strip: usize, refusal: Refusa
     let answer = store_into(chain, picture, &mut strip);
     assert_eq!(answer, Err(Error::Refused(refusal)));
     assert!(strip.iter().all(|&byte| byte == 0xA5));
+}
+
+/// At a point that no picture of these sizes has, which is looked at after the buffers.
+fn refuses_to_retouch(chain: &Chain, picture: usize, strip: usize, refusal: Refusal) {
+    let mut picture = A.to_bytes().repeat(18)[..picture].to_vec();
+    let mut strip = vec![0xA5; strip];
+    let before = (picture.clone(), strip.clone());
+    let outside = Point::new(u32::MAX, u32::MAX);
+    let answer = retouch_in_place(chain, &mut picture, &mut strip, outside, B);
+    assert_eq!(answer, Err(Error::Refused(refusal)));
+    assert_eq!((picture, strip), before);
 }
 
 #[test]
@@ -129,8 +141,31 @@ fn number_8() {
     refuses_to_rebuild(&table(), strip, Refusal::BufferTooShort);
     refuses_to_store(&table(), PICTURE - 1, strip, Refusal::BufferTooShort);
     refuses_to_store(&table(), PICTURE, strip - 1, Refusal::BufferTooShort);
+    refuses_to_retouch(&table(), PICTURE - 1, strip, Refusal::BufferTooShort);
+    refuses_to_retouch(&table(), PICTURE, strip - 1, Refusal::BufferTooShort);
     let picture = A.to_bytes().repeat(18);
     assert_eq!(store_into(&table(), &picture, &mut vec![0; strip]), Ok(()));
+}
+
+/// A refused retouch of a picture all of A leaves both as they were.
+fn refuses_point_or_color(chain: Chain, point: Point, color: Pixel, refusal: Refusal) {
+    let picture = Picture::from_pixels(SIZE, [A; 18]).unwrap();
+    let mut map = StoredPicture::new(chain, picture).unwrap();
+    let before = map.clone();
+    assert_eq!(map.retouch(point, color), Err(Error::Refused(refusal)));
+    assert_eq!(map, before);
+}
+
+/// Each side by itself, and before the color is looked at.
+#[test]
+fn number_9() {
+    refuses_to_retouch(&table(), PICTURE, PICTURE, Refusal::PointOutside);
+    for (x, y) in [(9, 0), (0, 2), (9, 2), (u32::MAX, 0), (0, u32::MAX)] {
+        let point = Point::new(x, y);
+        refuses_point_or_color(table(), point, A, Refusal::PointOutside);
+        let other = Pixel::new(1, 2, 3, 5);
+        refuses_point_or_color(table(), point, other, Refusal::PointOutside);
+    }
 }
 
 #[test]
@@ -164,6 +199,21 @@ fn number_21() {
         pixels[i] = B;
     }
     assert!(store(&table(), &Picture::from_pixels(SIZE, pixels).unwrap()).is_ok());
+}
+
+/// Each byte of a color counts. A predictor before the table has what it leaves looked at.
+#[test]
+fn number_22() {
+    let last = Point::new(8, 1);
+    for color in [(0, 2, 3, 4), (1, 0, 3, 4), (1, 2, 0, 4), (1, 2, 3, 0)] {
+        let (red, green, blue, alpha) = color;
+        let color = Pixel::new(red, green, blue, alpha);
+        refuses_point_or_color(table(), last, color, Refusal::NoEntryForRetouch);
+    }
+    let left = Chain::new(SIZE).predictor(4, &[Pixel::predictor_block(1)]);
+    let residuals = [Pixel::new(1, 2, 3, 5), Pixel::new(0, 0, 0, 0)];
+    let chain = left.color_table(&residuals);
+    refuses_point_or_color(chain, last, B, Refusal::NoEntryForRetouch);
 }
 
 /// The chain is refused before the size is compared, and memory is taken for no refused size.

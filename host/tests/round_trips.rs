@@ -1,7 +1,9 @@
 //! Storing and rebuilding undo each other, for every order of the transforms.
 
+mod chains;
 mod common;
 
+use chains::{orders, random_chain, Transform};
 use common::Xorshift;
 use letchwater::{
     rebuild, rebuild_in_place, store, store_into, Chain, Picture, Pixel, Size, Strip,
@@ -13,50 +15,13 @@ const HEIGHTS: [u32; 3] = [1, 2, 7];
 /// The ends of the four bands of sizes, in which a packed pixel holds 8, 4, 2 and 1 indices.
 const TABLES: [usize; 8] = [1, 2, 3, 4, 5, 16, 17, 256];
 
-#[derive(Clone, Copy, PartialEq, Eq)]
-enum Transform {
-    Predictor,
-    Color,
-    SubtractGreen,
-    ColorTable,
-}
-
-/// All 65: each transform at most once, in every order.
-fn orders() -> Vec<Vec<Transform>> {
-    use Transform::{Color, ColorTable, Predictor, SubtractGreen};
-    let mut orders: Vec<Vec<Transform>> = vec![Vec::new()];
-    let mut i = 0;
-    while let Some(order) = orders.get(i).cloned() {
-        let kinds = [Predictor, Color, SubtractGreen, ColorTable];
-        for kind in kinds.into_iter().filter(|kind| !order.contains(kind)) {
-            orders.push([order.as_slice(), &[kind]].concat());
-        }
-        i += 1;
-    }
-    assert_eq!(orders.len(), 65);
-    orders
-}
-
-/// Random data throughout. The table has a clear entry, so that every index, past its end too, gives
-/// a pixel that storing finds.
+/// The table has a clear entry, so that every index, past its end too, gives a pixel that storing
+/// finds.
 fn chain(random: &mut Xorshift, order: &[Transform], size: Size, entries: usize) -> Chain {
-    order.iter().fold(Chain::new(size), |chain, transform| {
-        let bits = 2 + random.byte() % 3;
-        let count = chain.blocks(bits).pixel_count();
-        match transform {
-            Transform::Predictor => {
-                let modes = random.bytes(count);
-                let blocks = modes.iter().map(|mode| Pixel::predictor_block(mode % 16));
-                chain.predictor(bits, &blocks.collect::<Vec<_>>())
-            }
-            Transform::Color => chain.color(bits, &random.pixels(count)),
-            Transform::SubtractGreen => chain.subtract_green(),
-            Transform::ColorTable => {
-                let mut table = random.pixels(entries);
-                table[usize::from(random.byte()) % entries] = Pixel::new(0, 0, 0, 0);
-                chain.color_table(&table)
-            }
-        }
+    random_chain(random, order, size, |random, _| {
+        let mut table = random.pixels(entries);
+        table[usize::from(random.byte()) % entries] = Pixel::new(0, 0, 0, 0);
+        table
     })
 }
 

@@ -2,6 +2,7 @@
 
 use crate::model::{indices_in_byte, Chain, Transform, KINDS};
 use crate::random::Xorshift;
+use std::ops::Range;
 
 pub const PREDICTOR: u8 = 0;
 pub const COLOR: u8 = 1;
@@ -180,6 +181,24 @@ impl Given {
     pub fn valid(&self) -> Chain<'_> {
         self.read()
             .unwrap_or_else(|number| panic!("a chain made to be valid is refused by {number}"))
+    }
+
+    /// The data of a record.
+    pub fn part(&self, record: usize) -> &[[u8; 4]] {
+        self.data[self.part_range(record)].as_chunks().0
+    }
+
+    pub fn part_mut(&mut self, record: usize) -> &mut [[u8; 4]] {
+        let range = self.part_range(record);
+        self.data[range].as_chunks_mut().0
+    }
+
+    fn part_range(&self, record: usize) -> Range<usize> {
+        let field = |at: usize| {
+            let bytes = &self.chain[16 * record + at..16 * record + at + 4];
+            u32::from_le_bytes(bytes.try_into().unwrap()) as usize
+        };
+        field(4)..field(4) + field(8)
     }
 
     /// Rebuilding's buffer: any strip, then bytes that are to be overwritten.

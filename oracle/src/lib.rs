@@ -28,10 +28,19 @@ pub mod model;
 pub mod given;
 
 #[cfg(rust_source)]
+pub mod damage;
+
+#[cfg(rust_source)]
+pub mod scenes;
+
+#[cfg(rust_source)]
 mod cases;
 
 #[cfg(rust_source)]
 mod chain_cases;
+
+#[cfg(rust_source)]
+mod retouch_cases;
 
 #[cfg(rust_source)]
 pub mod list;

@@ -16,7 +16,7 @@
 //! The output is width × height × 4 bytes.
 //!
 //! A case of an exported call on a chain has these 16 bytes, then chain, data, input and expected
-//! output. Such cases stand last.
+//! output. Such cases stand after those of transforms.
 //!
 //! | at | bytes | field |
 //! |---|---|---|
@@ -34,6 +34,31 @@
 //! and holds 165 in every byte before the call; the output is what it holds after it. Either buffer
 //! may be longer than needed or, where the answer is 8, too short. After a refusal the output is
 //! what the buffer held.
+//!
+//! A list of retouches on the same buffers has these 16 bytes, then chain, data, picture and strip
+//! before the list, the calls, picture and strip after the list. Such cases stand last.
+//!
+//! | at | bytes | field |
+//! |---|---|---|
+//! | 0 | 1 | call: retouch 7 |
+//! | 1 | 1 | the number of calls, at least 1 |
+//! | 2 | 2 | length of the chain |
+//! | 4 | 2 | width, which may be out of range |
+//! | 6 | 2 | height, likewise |
+//! | 8 | 2 | length of the data |
+//! | 10 | 2 | length of the strip's buffer |
+//! | 12 | 4 | length of the picture's buffer |
+//!
+//! A call has 16 bytes:
+//!
+//! | at | bytes | field |
+//! |---|---|---|
+//! | 0 | 4 | column, which may be outside |
+//! | 4 | 4 | row, likewise |
+//! | 8 | 4 | color: red, green, blue, alpha |
+//! | 12 | 4 | the expected answer |
+//!
+//! Either buffer may be longer than needed or, where the answer is 8, too short.
 
 use crate::cases::{
     color_cases, color_map_cases, color_table_cases, predictor_cases, subtract_green_cases,
@@ -43,10 +68,11 @@ use crate::given::Given;
 use crate::model;
 use crate::random::Xorshift;
 use crate::reference::picture_len;
+use crate::retouch_cases::{desk_cases, refused_cases};
 use crate::{color, color_map, color_table, predictor, subtract_green};
 
-/// What a case may have of data, of input and of output, so that a replayer's buffers are fixed.
-const PART: usize = 16384;
+/// What a part of a case may have at most, so that a replayer's buffers are fixed.
+pub(crate) const PART: usize = 16384;
 
 const SEED: u64 = 0x9E37_79B9_7F4A_7C15;
 
@@ -160,6 +186,17 @@ impl ChainCase {
 
 /// The whole list, the same on every run.
 pub fn answers() -> Vec<u8> {
+    let mut list = answers_without_retouch();
+    for cases in [desk_cases, refused_cases] {
+        for case in cases(&mut Xorshift::new(SEED)) {
+            case.write(&mut list);
+        }
+    }
+    list
+}
+
+/// The list's front, for a replayer that cannot retouch.
+pub fn answers_without_retouch() -> Vec<u8> {
     let mut list = Vec::new();
     for cases in [
         predictor_cases,

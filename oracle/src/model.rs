@@ -3,10 +3,15 @@
 //! which the Rust has not, is written out.
 
 mod chain;
+mod desk;
 mod forward;
+mod retouch;
+mod spots;
 
 pub use chain::{indices_in_byte, Chain, Step, Transform, KINDS};
+pub use desk::Desk;
 use forward::Pixel;
+pub use retouch::retouch;
 
 /// The number that `letchwater_rebuild` has to return; `image` is left as the call has to leave it.
 pub fn rebuild(width: u32, height: u32, chain: &[u8], data: &[u8], image: &mut [u8]) -> u32 {
@@ -56,12 +61,19 @@ fn try_store(
     if picture.len() < chain.picture_len() || strip.len() < chain.strip_len() {
         return Err(8);
     }
-    let mut pixels = pixels(&picture[..chain.picture_len()]);
-    for step in &chain.steps {
-        pixels = forward(step, &pixels).ok_or(21u32)?;
-    }
-    strip[..chain.strip_len()].copy_from_slice(pixels.as_flattened());
+    let pixels = pixels(&picture[..chain.picture_len()]);
+    let records = stored(&chain, &pixels).ok_or(21u32)?;
+    strip[..chain.strip_len()].copy_from_slice(records.as_flattened());
     Ok(())
+}
+
+/// The strip's records; nothing where storing does not accept the picture.
+fn stored(chain: &Chain, picture: &[Pixel]) -> Option<Vec<Pixel>> {
+    let mut pixels = picture.to_vec();
+    for step in &chain.steps {
+        pixels = forward(step, &pixels)?;
+    }
+    Some(pixels)
 }
 
 /// What the step leaves of the pixels; nothing where one of them has no entry.

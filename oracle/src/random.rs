@@ -26,12 +26,22 @@ impl Xorshift {
         (0..len).map(|_| self.byte()).collect()
     }
 
+    pub fn pixel(&mut self) -> [u8; 4] {
+        [(); 4].map(|()| self.byte())
+    }
+
     pub fn below(&mut self, bound: usize) -> usize {
         (self.number() >> 32) as usize % bound
     }
 
     pub fn choose<T: Copy>(&mut self, from: &[T]) -> T {
         from[self.below(from.len())]
+    }
+
+    pub fn shuffle<T>(&mut self, items: &mut [T]) {
+        for last in (1..items.len()).rev() {
+            items.swap(last, self.below(last + 1));
+        }
     }
 
     /// Bytes of one of three sorts: any, small steps, which make ties and odd halves, and the ends

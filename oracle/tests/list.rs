@@ -8,11 +8,20 @@ fn list() -> Vec<u8> {
     fs::read(file).unwrap_or_else(|error| panic!("crates/replay/stdin: {error}"))
 }
 
+/// Whether the list is expected to end before the retouches, for a replayer that cannot retouch.
+fn without_retouch() -> bool {
+    std::env::var_os("LETCHWATER_LIST_WITHOUT_RETOUCH").is_some()
+}
+
 #[cfg(rust_source)]
 #[test]
 fn list_is_what_the_rust_answers() {
     let list = list();
-    let answers = oracle::list::answers();
+    let answers = if without_retouch() {
+        oracle::list::answers_without_retouch()
+    } else {
+        oracle::list::answers()
+    };
     let alike = list.iter().zip(&answers).take_while(|(a, b)| a == b);
     let alike = alike.count();
     assert!(
@@ -33,22 +42,44 @@ fn list_is_what_the_rust_answers() {}
 fn list_can_be_replayed() {
     let list = list();
     let mut rest = list.as_slice();
-    let mut cases = [0; 7];
-    let mut answers = BTreeSet::new();
+    let mut cases = [0; 8];
+    let (mut answers, mut retouched) = (BTreeSet::new(), BTreeSet::new());
     while !rest.is_empty() {
         let header = rest.split_off(..16).expect("a whole header");
         let call = header[0];
-        for len in part_lengths(header) {
+        for (at, len) in part_lengths(header).into_iter().enumerate() {
             assert!(len <= 16384);
-            rest.split_off(..len).expect("a whole part");
+            let part = rest.split_off(..len).expect("a whole part");
+            if (call, at) == (7, CALLS) {
+                retouched.extend(part.chunks_exact(16).map(class));
+            }
         }
         cases[usize::from(call)] += 1;
-        if call >= 5 {
+        if let 5 | 6 = call {
             answers.insert(header[1]);
         }
     }
-    assert!(cases.iter().all(|&count| count > 0), "{cases:?}");
     assert!(answers.into_iter().eq([0, 1, 2, 3, 4, 5, 6, 7, 8, 21]));
+    let cases = if without_retouch() {
+        &cases[..7]
+    } else {
+        let counts = (0..=5).map(|count| 256 + 32 * count);
+        assert!(retouched.into_iter().eq((1..10).chain([22]).chain(counts)));
+        &cases
+    };
+    assert!(cases.iter().all(|&count| count > 0), "{cases:?}");
+}
+
+/// Which part of a list of retouches has the calls.
+const CALLS: usize = 4;
+
+/// The answer to a retouch without its mask.
+fn class(call: &[u8]) -> u32 {
+    let answer = u32::from_le_bytes(call[12..].try_into().unwrap());
+    match answer {
+        ..256 => answer,
+        _ => answer - answer % 32,
+    }
 }
 
 fn part_lengths(header: &[u8]) -> Vec<usize> {
@@ -56,6 +87,10 @@ fn part_lengths(header: &[u8]) -> Vec<usize> {
     let long = |at| short(at) + 65536 * short(at + 2);
     match header[0] {
         0..5 => vec![long(8), long(12), 4 * short(4) * short(6)],
-        _ => vec![short(2), short(8), long(12), short(10)],
+        5..7 => vec![short(2), short(8), long(12), short(10)],
+        _ => {
+            let (picture, strip, calls) = (long(12), short(10), 16 * usize::from(header[1]));
+            vec![short(2), short(8), picture, strip, calls, picture, strip]
+        }
     }
 }

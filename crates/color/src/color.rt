@@ -65,6 +65,13 @@ fn store_pixel(v: Pixel, green_to_red: u32, green_to_blue: u32, red_to_blue: u32
     }
 }
 
+// A pixel whose block has the data pixel e.
+pub fn transform_pixel(e: Pixel, v: Pixel) -> Pixel
+    ensures { λ r. ⌜ r ≡ transformColor e v ⌝ }
+{
+    store_pixel(v, factor(e.blue), factor(e.green), factor(e.red))
+}
+
 // Columns of one block, whose data pixel is e.
 fn rebuild_segment(row: &mut [u8], from: usize, to: usize, e: Pixel)
     requires { ⌜ (from ≤ to) × (4 * to ≤ length (now row)) ⌝ }

@@ -25,7 +25,7 @@ fn rebuild_pixel(v: Pixel) -> Pixel
     }
 }
 
-fn store_pixel(v: Pixel) -> Pixel
+pub fn store_pixel(v: Pixel) -> Pixel
     ensures { λ r. ⌜ r ≡ subtractGreen v ⌝ }
 {
     Pixel {

@@ -16,7 +16,7 @@ pub fn same(a: u32, b: u32) -> bool
 }
 
 // The lowest index whose entry equals w, by looking at each; `size` where there is none.
-fn scan(entries: &[u8], size: usize, w: u32) -> usize
+pub fn scan(entries: &[u8], size: usize, w: u32) -> usize
     requires { ⌜ 4 * size ≤ length (now entries) ⌝ }
     ensures { λ r. ⌜ r ≡ indexOf size (pixels (now (entries .entry))) (unword w) ⌝ }
 {

@@ -16,8 +16,8 @@ use Rattle.format.specs.Picture.{pixels, written}
 use Rattle.format.specs.Chain.{stepAt, count}
 use Rattle.format.specs.Refusals.{usedBefore, checked, number, _unless_, _before_, recordsRefusal, inRange, wholeRecords, chainRefusal}
 use Rattle.format.specs.Stages.{stored, rebuilt, accepts}
-use Rattle.format.specs.Retouch.{unmade}
-use Rattle.format.specs.Calls.{holds, records, rebuildAnswer, rebuildImage, storeAnswer, storeStrip, inside, touched, newPicture, retouchAnswer, retouchPicture, retouchStrip}
+use Rattle.format.specs.Retouch.{unmade, pointAnswer}
+use Rattle.format.specs.Calls.{holds, records, rebuildAnswer, rebuildImage, storeAnswer, storeStrip, inside, painted, touched, retouchAnswer, retouchPicture, retouchStrip}
 use Rattle.format.proofs.Choice.{and-left, and-right, and-both}
 use Rattle.format.proofs.Valid.{before-zero, unless-zero}
 
@@ -132,7 +132,7 @@ module _ (w h : ℕ) (cs ds : List ℕ) where
 
   module _ (picture strip : List ℕ) (x y : ℕ) (v : Pixel) where
     pub retouchAnswer-listed : (retouchAnswer w h cs ds picture strip x y v ≤ 9) ⊎ ((retouchAnswer w h cs ds picture strip x y v ≡ 22) ⊎ (256 ≤ retouchAnswer w h cs ds picture strip x y v))
-    unfolding retouchAnswer
+    unfolding retouchAnswer pointAnswer
     retouchAnswer-listed =
         let m = chainRefusal-most w h cs (length ds) in
         before-is Listed refusal _ (inl (omega arith))
@@ -144,7 +144,7 @@ module _ (w h : ℕ) (cs ds : List ℕ) where
         Listed r = (r ≤ 9) ⊎ ((r ≡ 22) ⊎ (256 ≤ r))
 
         refused : Bool
-        refused = unmade (stepAt cs w) ds (count cs) (records w h cs) (newPicture w h cs ds picture strip x y v) (touched w cs x y)
+        refused = unmade (stepAt cs w) ds (count cs) (records w h cs) (painted w (pixels picture) x y v) (touched w cs x y)
 
     pub retouch-refused : retouchAnswer w h cs ds picture strip x y v < 256 → (retouchPicture w h cs ds picture strip x y v ≡ picture) × (retouchStrip w h cs ds picture strip x y v ≡ strip)
     unfolding retouchPicture retouchStrip

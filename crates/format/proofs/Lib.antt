@@ -6,6 +6,7 @@ pub mod Pixels
 pub mod Picture
 pub mod Written
 pub mod Predictor
+pub mod Modes
 pub mod Color
 pub mod SubtractGreen
 pub mod ColorTable
@@ -21,6 +22,7 @@ pub mod Locality
 pub mod Making
 pub mod Marks
 pub mod Spots
+pub mod Steps
 pub mod Calls
 pub mod Retouching
 pub mod Demands

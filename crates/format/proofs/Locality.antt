@@ -15,7 +15,7 @@ use Rattle.format.specs.Picture.{Picture, block, paint}
 use Rattle.format.specs.Predictor.{predicted, residuals}
 use Rattle.format.specs.Color.{transformColor, colorStored}
 use Rattle.format.specs.SubtractGreen.{subtractGreen, greenStored}
-use Rattle.format.specs.ColorTable.{perPixel, range, packedWidth, indexOf, digits, indexAt, packed}
+use Rattle.format.specs.ColorTable.{perPixel, range, packedWidth, indexOf, indexAt, packed}
 use Rattle.format.specs.Stages.{partOf, forward, stored}
 use Rattle.format.specs.Retouch.{fiveSpots, packedOver, spotsOf, spotRecords}
 use Rattle.format.proofs.Choice.{if-same}

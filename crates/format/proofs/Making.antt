@@ -28,7 +28,6 @@ use Rattle.format.proofs.Indices.{In, Each, _and_, each-at, each-in, so
 use Rattle.format.proofs.Predictor.{row-above}
 use Rattle.format.proofs.ColorTable.{perPixel-pos, column-packed, ceiling-pos}
 use Rattle.format.proofs.ByKind.{kinds, byKind-0, byKind-1, byKind-2, byKind-3, narrowed-table, narrowed-other}
-use Rattle.format.proofs.Stages.{widthAt-pos, width-record}
 use Rattle.format.proofs.Locality.{Off, spots-predictor, spots-table, spots-other, stored-off}
 use Rattle.format.proofs.Valid.{Fits, valid-fits}
 

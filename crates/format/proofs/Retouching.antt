@@ -2,7 +2,7 @@
 use mathlib.Core.Bool.{Bool, true, false, not, _&&_, false≢true}
 use mathlib.Core.List.{List, [], _∷_}
 use mathlib.Core.Path.{_≡_, refl, sym, ap, _∙_, subst}
-use Prim.Native.Nat.{ℕ, zero, suc, _+_, _*_, _<_, _≤_}
+use Prim.Native.Nat.{ℕ, _+_, _*_, _<_, _≤_}
 use native.Mathlib.Nat.{le-refl}
 use native.Mathlib.Omega.{arith}
 use borrow.Author.Tests.{ltb-true, le-leb, not-true}
@@ -16,8 +16,8 @@ use Rattle.format.specs.Picture.{Picture, pixels, written}
 use Rattle.format.specs.Chain.{stepAt, count}
 use Rattle.format.specs.Refusals.{_unless_, _before_, chainRefusal}
 use Rattle.format.specs.Stages.{stored, accepts}
-use Rattle.format.specs.Retouch.{spotRecords, differ, marks, maskOf, ones, answer, unmade, remade}
-use Rattle.format.specs.Calls.{holds, records, inside, touched, newStrip, changes, retouchAnswer, retouchPicture, retouchStrip}
+use Rattle.format.specs.Retouch.{differ, marks, maskOf, ones, answer, unmade, remade, newStrip, changes, pointAnswer}
+use Rattle.format.specs.Calls.{holds, records, inside, touched, retouchAnswer, retouchPicture, retouchStrip}
 use Rattle.format.specs.Desk.{Retouch, Buffers, leftBy, answersTo, accepted, paintedWith, after, differing, deskAnswer, deskHolds, callAnswer, callLeaves}
 use Rattle.format.proofs.Choice.{and-left, and-right, and-both}
 use Rattle.format.proofs.Indices.{among-in, in-among, howMany-same, howMany-none}
@@ -96,18 +96,19 @@ module _ (w h : ℕ) (cs ds : List ℕ) where
           (c .y * w + c .x) f g off r (λ i. false≢true (sym e ∙ in-among r rs i))
 
       -- the records made afresh, and those kept, are the new picture stored
-      made : (r : ℕ) → r < n → newStrip w h cs ds (b .picture) (b .strip) (c .x) (c .y) (c .color) r ≡ afresh g r
-      unfolding remade
+      made : (r : ℕ) → r < n → newStrip (stepAt cs w) ds (count cs) g (c .y * w + c .x) (pixels (b .strip)) r ≡ afresh g r
+      unfolding newStrip remade
       made r l = go (among r rs) refl
         where
           go : (t : Bool) → among r rs ≡ t → (if t then afresh g r else pixels (b .strip) r) ≡ afresh g r
           go true e = refl
           go false e = m .stored r l ∙ kept r e
 
-      same-changes : changes w h cs ds (b .picture) (b .strip) (c .x) (c .y) (c .color) ≡ marks (differing w h cs ds f c) [] rs
+      same-changes : changes (stepAt cs w) ds (count cs) n g (c .y * w + c .x) (pixels (b .strip)) ≡ marks (differing w h cs ds f c) [] rs
+      unfolding changes
       same-changes =
           marks-same [] _ (differing w h cs ds f c) rs
-          (differ-same (pixels (b .strip)) (newStrip w h cs ds (b .picture) (b .strip) (c .x) (c .y) (c .color)) (afresh f) (afresh g) (m .stored) made)
+          (differ-same (pixels (b .strip)) (newStrip (stepAt cs w) ds (count cs) g (c .y * w + c .x) (pixels (b .strip))) (afresh f) (afresh g) (m .stored) made)
 
       -- the desk's count is the ones of its mask
       counted : ones (marks (differing w h cs ds f c) [] rs) ≡ howMany n (differing w h cs ds f c)
@@ -121,8 +122,8 @@ module _ (w h : ℕ) (cs ds : List ℕ) where
 
       tests : callAnswer w h cs ds b c
           ≡ outcome (inside w h (c .x) (c .y)) (not (unmade (stepAt cs w) ds (count cs) n g rs))
-          (answer (ones (changes w h cs ds (b .picture) (b .strip) (c .x) (c .y) (c .color))) (maskOf (changes w h cs ds (b .picture) (b .strip) (c .x) (c .y) (c .color))))
-      unfolding callAnswer retouchAnswer outcome
+          (answer (ones (changes (stepAt cs w) ds (count cs) n g (c .y * w + c .x) (pixels (b .strip)))) (maskOf (changes (stepAt cs w) ds (count cs) n g (c .y * w + c .x) (pixels (b .strip)))))
+      unfolding callAnswer retouchAnswer pointAnswer outcome
       tests =
           rw (valid, and-both (holds (b .picture) (h * w)) (holds (b .strip) n) (le-leb (4 * (h * w)) (length (b .picture)) (m .room)) (le-leb (4 * n) (length (b .strip)) (m .space))) refl
 
@@ -150,9 +151,9 @@ module _ (w h : ℕ) (cs ds : List ℕ) where
       unfolding callLeaves retouchStrip deskHolds callAnswer
       next-strip = rw same-answer (go (leb 256 (deskAnswer w h cs ds f c)))
         where
-          go : (t : Bool) → (if t then written n (newStrip w h cs ds (b .picture) (b .strip) (c .x) (c .y) (c .color)) (b .strip) else b .strip)
+          go : (t : Bool) → (if t then written n (newStrip (stepAt cs w) ds (count cs) g (c .y * w + c .x) (pixels (b .strip))) (b .strip) else b .strip)
               ≡ written n (afresh (if t then g else f)) (b .strip)
-          go true = written-same n (newStrip w h cs ds (b .picture) (b .strip) (c .x) (c .y) (c .color)) (afresh g) (b .strip) made
+          go true = written-same n (newStrip (stepAt cs w) ds (count cs) g (c .y * w + c .x) (pixels (b .strip))) (afresh g) (b .strip) made
           go false = sym (written-self n (b .strip) (m .space)) ∙ written-same n (pixels (b .strip)) (afresh f) (b .strip) (m .stored)
 
       -- what the desk holds then

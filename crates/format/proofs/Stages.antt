@@ -11,7 +11,7 @@ use Rattle.format.specs.declared.Step.{Step}
 use Rattle.format.specs.Picture.{Picture, ceiling}
 use Rattle.format.specs.ColorTable.{perPixel, packedWidth}
 use Rattle.format.specs.Chain.{recordAt, narrowed, widthAt, stepAt}
-use Rattle.format.specs.Stages.{partOf, forward, backward, stored, rebuilt, accepts}
+use Rattle.format.specs.Stages.{partOf, forward, backward, stored, rebuilt}
 use Rattle.format.proofs.ColorTable.{perPixel-pos, ceiling-pos}
 use Rattle.format.proofs.Inside.{Alike, residuals-same, fromResiduals-same, colorStored-same, colorRebuilt-same, greenStored-same, greenRebuilt-same, packed-same, unpacked-same}
 use Rattle.format.proofs.ByKind.{kinds, forward-0, forward-1, forward-2, forward-3, backward-0, backward-1, backward-2, backward-3, narrowed-table, narrowed-other}
@@ -115,15 +115,3 @@ module _ (cs : List ℕ) (w h : ℕ) (ds : List ℕ) (pos : 1 ≤ w) where
   rebuilt-same (suc k) known f g same =
       rebuilt-same k (λ j l. known j (omega arith)) (backward (stepAt cs w k) h ds f) (backward (stepAt cs w k) h ds g)
       (backward-same (stepAt cs w k) h ds (widthAt-pos cs w k pos) (known k (omega arith)) f g same)
-
--- the first k records alone
-module _ (s t : ℕ → Step) (h : ℕ) (ds : List ℕ) (f : Picture) where
-  pub stored-steps : (k : ℕ) → ((j : ℕ) → j < k → s j ≡ t j) → stored s ds k f ≡ stored t ds k f
-  unfolding stored
-  stored-steps zero e = refl
-  stored-steps (suc k) e = cc (e k (omega arith), stored-steps k (λ j l. e j (omega arith)))
-
-  pub accepts-steps : (k : ℕ) → ((j : ℕ) → j < k → s j ≡ t j) → accepts s h ds k f ≡ accepts t h ds k f
-  unfolding accepts
-  accepts-steps zero e = refl
-  accepts-steps (suc k) e = cc (e k (omega arith), stored-steps k (λ j l. e j (omega arith)), accepts-steps k (λ j l. e j (omega arith)))

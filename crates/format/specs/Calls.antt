@@ -1,6 +1,6 @@
 -- What the calls on chains return and leave: the number, and every byte of each buffer that is lent to be written. A refusal changes no byte.
-use mathlib.Core.Bool.{Bool, not, _&&_}
-use mathlib.Core.List.{List, []}
+use mathlib.Core.Bool.{Bool, _&&_}
+use mathlib.Core.List.{List}
 use Prim.Native.Nat.{ℕ, _+_, _*_}
 use lib.Dec.{eqb, leb, ltb}
 use lib.ListN.{length}
@@ -10,7 +10,7 @@ use Rattle.format.specs.Picture.{Picture, pixels, written, paint}
 use Rattle.format.specs.Chain.{count, widthAt, stepAt}
 use Rattle.format.specs.Refusals.{chainRefusal, _before_, _unless_}
 use Rattle.format.specs.Stages.{stored, rebuilt, accepts}
-use Rattle.format.specs.Retouch.{spotRecords, differ, marks, maskOf, ones, answer, unmade, remade}
+use Rattle.format.specs.Retouch.{spotRecords, newStrip, pointAnswer}
 
 -- a buffer has room for n pixels
 abbrev pub holds : List ℕ → ℕ → Bool
@@ -53,26 +53,18 @@ module _ (w h : ℕ) (cs ds : List ℕ) where
 
   -- retouching: column x of row y painted with the color v
   module _ (picture strip : List ℕ) (x y : ℕ) (v : Pixel) where
-    abbrev pub newPicture : Picture
-    newPicture = painted w (pixels picture) x y v
-
-    abbrev pub newStrip : Picture
-    newStrip = remade (stepAt cs w) ds (count cs) newPicture (touched w cs x y) (pixels strip)
-
-    -- which records changed, spot by spot
-    abbrev pub changes : List Bool
-    changes = marks (differ (records w h cs) (pixels strip) newStrip) [] (touched w cs x y)
-
     unfoldable pub retouchAnswer : ℕ
     retouchAnswer =
         chainRefusal w h cs (length ds)
         before (8 unless (holds picture (h * w) && holds strip (records w h cs)))
         before (9 unless inside w h x y)
-        before (22 unless not (unmade (stepAt cs w) ds (count cs) (records w h cs) newPicture (touched w cs x y)))
-        before answer (ones changes) (maskOf changes)
+        before pointAnswer (stepAt cs w) ds (count cs) (records w h cs) (painted w (pixels picture) x y v) (y * w + x) (pixels strip)
 
     unfoldable pub retouchPicture : List ℕ
-    retouchPicture = if leb 256 retouchAnswer then written (h * w) newPicture picture else picture
+    retouchPicture = if leb 256 retouchAnswer then written (h * w) (painted w (pixels picture) x y v) picture else picture
 
     unfoldable pub retouchStrip : List ℕ
-    retouchStrip = if leb 256 retouchAnswer then written (records w h cs) newStrip strip else strip
+    retouchStrip =
+        if leb 256 retouchAnswer
+        then written (records w h cs) (newStrip (stepAt cs w) ds (count cs) (painted w (pixels picture) x y v) (y * w + x) (pixels strip)) strip
+        else strip

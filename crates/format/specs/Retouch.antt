@@ -9,6 +9,7 @@ use Rattle.format.specs.declared.Step.{Step}
 use Rattle.format.specs.Pixel.{equal}
 use Rattle.format.specs.Picture.{Picture}
 use Rattle.format.specs.ColorTable.{perPixel, packedWidth}
+use Rattle.format.specs.Refusals.{_before_, _unless_}
 use Rattle.format.specs.Stages.{stored}
 use Rattle.format.specs.Made.{missing}
 
@@ -24,8 +25,8 @@ packedOver w size q = q / w * packedWidth size w + q % w / perPixel size
 unfoldable pub spotsOf : Step → ℕ → List ℕ
 spotsOf s q = if eqb (s .kind) 0 then fiveSpots (s .width) q else if eqb (s .kind) 3 then packedOver (s .width) (s .size) q ∷ [] else q ∷ []
 
--- the records, after the first k of a chain, that the spots of pixel p belong to. One predictor makes five of them, without one there is one.
--- A spot is outside its stage exactly if its record is past the strip's last
+-- the records, after the first k of a chain, that the spots of pixel p belong to: up to the predictor one item holds p, its five spots are made there, and each
+-- is in one record. Without a predictor p is the only spot. A spot is outside its stage exactly if its record is past the strip's last (proofs/Spots.antt)
 unfoldable pub spotRecords : (ℕ → Step) → ℕ → ℕ → List ℕ
 spotRecords steps zero p = p ∷ []
 spotRecords steps (suc k) p = union (spotsOf (steps k)) (spotRecords steps k p)
@@ -51,11 +52,26 @@ ones (b ∷ bs) = bit b + ones bs
 abbrev pub answer : ℕ → ℕ → ℕ
 answer count mask = 256 + 32 * count + mask
 
+-- a chain of k records
 module _ (steps : ℕ → Step) (ds : List ℕ) (k : ℕ) where
-  -- one of the records is of the first n and cannot be made of the picture f
+  -- one of the records rs is of the first n and cannot be made of the picture f
   unfoldable pub unmade : ℕ → Picture → List ℕ → Bool
   unmade n f rs = some (λ r. ltb r n && missing steps ds k f r) rs
 
-  -- the strip with these records made afresh of the picture f
+  -- the strip with the records rs made afresh of the picture f
   unfoldable pub remade : Picture → List ℕ → Picture → Picture
   remade f rs strip r = if among r rs then stored steps ds k f r else strip r
+
+  -- pixel p was painted, which gave the picture f
+  unfoldable pub newStrip : Picture → ℕ → Picture → Picture
+  newStrip f p strip = remade f (spotRecords steps k p) strip
+
+  -- the strip has n records
+  module _ (n : ℕ) (f : Picture) (p : ℕ) (strip : Picture) where
+    -- which records changed, spot by spot
+    unfoldable pub changes : List Bool
+    changes = marks (differ n strip (newStrip f p strip)) [] (spotRecords steps k p)
+
+    -- 22, or which records changed and how many
+    unfoldable pub pointAnswer : ℕ
+    pointAnswer = (22 unless not (unmade n f (spotRecords steps k p))) before answer (ones changes) (maskOf changes)

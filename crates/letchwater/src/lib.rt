@@ -1,10 +1,13 @@
 // The calls for the Rust host: numbers and byte slices. Each contract gives the number and every byte of every lent buffer, on every input.
 use color_map::adjust_color_map;
 use color_map::unadjust_color_map;
+use format::Pixel;
 use rebuild::rebuild;
+use retouch::retouch::retouch;
 use store::store::store;
 ghost use mathlib.Core.Path.{_≡_};
-ghost use Rattle.format.specs.Calls.{rebuildAnswer, rebuildImage, storeAnswer, storeStrip};
+ghost use Rattle.format.specs.Pixel.{pixel};
+ghost use Rattle.format.specs.Calls.{rebuildAnswer, rebuildImage, storeAnswer, storeStrip, retouchAnswer, retouchPicture, retouchStrip};
 ghost use Rattle.format.specs.ColorMap.{refused as refusedLength, colorMapAnswer, adjustColorMap, unadjustColorMap};
 
 // Rebuilds a picture in the buffer whose front holds its strip.
@@ -36,6 +39,45 @@ pub extern "C" fn letchwater_store(
     ensures { λ r. ⌜ now (strip .exit) ≡ storeStrip width height (now (chain .entry)) (now («data» .entry)) (now (picture .entry)) (now (strip .entry)) ⌝ }
 {
     store(width as usize, height as usize, chain, data, picture, strip)
+}
+
+// Paints column x of row y with the color r, g, b, a, and makes the records of its spots afresh.
+#[no_mangle]
+pub extern "C" fn letchwater_retouch(
+    width: u32,
+    height: u32,
+    chain: &[u8],
+    data: &[u8],
+    picture: &mut [u8],
+    strip: &mut [u8],
+    x: u32,
+    y: u32,
+    r: u8,
+    g: u8,
+    b: u8,
+    a: u8,
+) -> u32
+    ensures { λ n. ⌜ n ≡ retouchAnswer width height (now (chain .entry)) (now («data» .entry)) (now (picture .entry)) (now (strip .entry)) x y (pixel r g b a) ⌝ }
+    ensures { λ n. ⌜ now (picture .exit) ≡ retouchPicture width height (now (chain .entry)) (now («data» .entry)) (now (picture .entry)) (now (strip .entry)) x y (pixel r g b a) ⌝ }
+    ensures { λ n. ⌜ now (strip .exit) ≡ retouchStrip width height (now (chain .entry)) (now («data» .entry)) (now (picture .entry)) (now (strip .entry)) x y (pixel r g b a) ⌝ }
+{
+    let color = Pixel {
+        red: r,
+        green: g,
+        blue: b,
+        alpha: a,
+    };
+    retouch(
+        width as usize,
+        height as usize,
+        chain,
+        data,
+        picture,
+        strip,
+        x as usize,
+        y as usize,
+        color,
+    )
 }
 
 // Refusal 10: the length of a color map is 0, over 1024 or not a multiple of 4.

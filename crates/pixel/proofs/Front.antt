@@ -1,14 +1,18 @@
 -- A run from the front of a buffer, as the definitions of `format` write it: the front replaced, the bytes beyond kept.
+use mathlib.Core.Bool.{Bool}
 use mathlib.Core.List.{List, [], _∷_}
 use mathlib.Core.Path.{_≡_, refl, sym, ap, _∙_}
 use Prim.Native.Nat.{ℕ, zero, suc, _+_, _*_, _<_, _≤_}
-use native.Mathlib.Nat.{mul-suc, zero-add, le-refl}
+use native.Mathlib.Nat.{mul-suc, zero-add, le-refl, not-suc-le-zero, le-of-suc-le-suc}
 use native.Mathlib.Omega.{arith}
+use lib.Dec.{eqb·suc-suc}
 use lib.ListN.{length, drop, length-drop}
 use lib.Seq.{ext-getD}
+use Rattle.format.specs.Choice.{if_then_else_}
 use Rattle.format.specs.declared.Pixel.{Pixel}
-use Rattle.format.specs.Picture.{Picture, byteAt, pixels, written, writtenBytes, inOrder}
-use Rattle.format.proofs.Picture.{written-same, length-writtenBytes, byteAt-writtenBytes, inOrder-kept, paint-at}
+use Rattle.format.specs.Picture.{Picture, byteAt, pixels, written, writtenBytes, paint, inOrder}
+use Rattle.format.proofs.Picture.{written-same, length-writtenBytes, byteAt-writtenBytes, inOrder-kept, paint-at, paint-other}
+use Rattle.format.proofs.Written.{written-self}
 use Rattle.pixel.specs.Cells.{Cells, pixelCells, putPixel, Rule, run}
 use Rattle.pixel.proofs.Cells.{Lawful, pixel-lawful, get-run}
 
@@ -75,3 +79,20 @@ pixel-front = record {
 
 pub pixels-run : (h : Rule Pixel) (xs : List ℕ) (n : ℕ) → 4 * n ≤ length xs → run pixelCells h 0 n xs ≡ written n (inOrder h n (pixels xs)) xs
 pixels-run h xs n l = run-front pixelCells pixel-lawful written pixel-front h xs n l
+
+-- one pixel of the front replaced
+pub put-written : (n : ℕ) (f : Picture) (xs : List ℕ) (i : ℕ) (v : Pixel) → i < n → putPixel (written n f xs) i v ≡ written n (paint f i v) xs
+unfolding written putPixel
+put-written zero f xs i v l = absurd (not-suc-le-zero l)
+put-written (suc n) f xs zero v l =
+    cc (written-same n (λ j. f (suc j)) (λ j. paint f 0 v (suc j)) (drop 4 xs) (λ j k. sym (paint-other f 0 v (suc j) (λ e. omega arith))))
+put-written (suc n) f xs (suc i) v l =
+    putPixel-cons (f 0 .red) (f 0 .green) (f 0 .blue) (f 0 .alpha) (written n (λ j. f (suc j)) (drop 4 xs)) i v
+    ∙ cc (
+      put-written n (λ j. f (suc j)) (drop 4 xs) i v (le-of-suc-le-suc l),
+      written-same n (paint (λ j. f (suc j)) i v) (λ j. paint f (suc i) v (suc j)) (drop 4 xs) (λ j k. ap (λ (b : Bool). if b then v else f (suc j)) (sym (eqb·suc-suc j i))),
+      paint-other f (suc i) v 0 (λ e. omega arith),
+    )
+
+pub put-painted : (n : ℕ) (xs : List ℕ) (i : ℕ) (v : Pixel) → 4 * n ≤ length xs → i < n → putPixel xs i v ≡ written n (paint (pixels xs) i v) xs
+put-painted n xs i v l u = ap (λ (ys : List ℕ). putPixel ys i v) (sym (written-self n xs l)) ∙ put-written n (pixels xs) xs i v u

@@ -1,4 +1,4 @@
-// The header of a case: 16 bytes, little-endian (oracle/src/list.rs).
+// The header of a case, or a call of a list: 16 bytes, little-endian (oracle/src/list.rs).
 ghost use Prim.Native.Nat.{_+_, _<_};
 
 // A transform by itself.
@@ -42,10 +42,16 @@ fn length_in_two(header: &[u8; 16], at: usize) -> usize
     two_bytes(header, at) as usize
 }
 
+pub fn four_bytes(header: &[u8; 16], at: usize) -> u32
+    requires { ⌜ at + 3 < 16 ⌝ }
+{
+    two_bytes(header, at) + 65536 * two_bytes(header, at + 2)
+}
+
 fn length_in_four(header: &[u8; 16], at: usize) -> usize
     requires { ⌜ at + 3 < 16 ⌝ }
 {
-    (two_bytes(header, at) + 65536 * two_bytes(header, at + 2)) as usize
+    four_bytes(header, at) as usize
 }
 
 pub fn single_of(header: &[u8; 16]) -> Single {

@@ -6,14 +6,15 @@ use crate::case::Single;
 use crate::case::call_of;
 use crate::case::record_of;
 use crate::case::single_of;
+use crate::parts::lacks_part;
+use crate::retouches::Answers;
+use crate::retouches::replay_retouches;
 use crate::sizes::picture_len;
 use crate::transforms::Outcome;
 use crate::transforms::replay_color_map;
 use crate::transforms::replay_color_table;
 use crate::transforms::replay_pixels;
 use libc::STDIN_FILENO;
-ghost use mathlib.Core.Path.{_≡_};
-ghost use mathlib.Core.Bool.{false};
 ghost use Prim.Native.Nat.{_≤_};
 ghost use lib.ListN.{length};
 
@@ -26,16 +27,6 @@ pub enum Next {
     },
     Malformed,
     End,
-}
-
-// Fills the first n bytes of the buffer. True where there is no room for them, or the list ends before.
-fn lacks_part(buffer: &mut [u8], n: usize) -> bool
-    ensures { λ r. ⌜ (r ≡ false → n ≤ length (now (buffer .entry))) ⌝ }
-{
-    if buffer.len() < n {
-        return true;
-    }
-    io::read_full(STDIN_FILENO, &mut buffer[0..n]) != n
 }
 
 // By the transform's number, on parts of the lengths that the header gives.
@@ -170,12 +161,86 @@ fn replay_call(header: &[u8; 16]) -> Outcome {
     replay_filled_call(c, &chain, &data, &mut input, &output)
 }
 
+// Both buffers after the list's calls, picture first.
+fn compare_both(picture: &[u8], strip: &[u8], same: bool, refused: bool) -> Outcome
+    requires { ⌜ (length (now picture) ≤ 16384) × (length (now strip) ≤ 16384) ⌝ }
+{
+    let mut after = [0u8; 16384];
+    let n = picture.len();
+    if lacks_part(&mut after, n) {
+        return Outcome::Malformed;
+    }
+    let same_picture = check::same(picture, &after[0..n]);
+    let m = strip.len();
+    if lacks_part(&mut after, m) {
+        return Outcome::Malformed;
+    }
+    let same_strip = check::same(strip, &after[0..m]);
+    Outcome::Compared {
+        same: same && same_picture && same_strip,
+        back: true,
+        refused,
+    }
+}
+
+fn replay_filled_list(
+    c: Call,
+    chain: &[u8],
+    data: &[u8],
+    picture: &mut [u8],
+    strip: &mut [u8],
+) -> Outcome
+    requires { ⌜ (c .«chain_len» ≤ length (now chain)) × (c .«data_len» ≤ length (now «data»)) ⌝ }
+    requires { ⌜ (c .«input_len» ≤ length (now picture)) × (c .«output_len» ≤ length (now strip)) × (c .«input_len» ≤ 16384) × (c .«output_len» ≤ 16384) ⌝ }
+{
+    let chain_len = c.chain_len;
+    let data_len = c.data_len;
+    let n = c.input_len;
+    let m = c.output_len;
+    let answers = replay_retouches(
+        c,
+        &chain[0..chain_len],
+        &data[0..data_len],
+        &mut picture[0..n],
+        &mut strip[0..m],
+    );
+    let Answers::Compared { same, refused } = answers else {
+        return Outcome::Malformed;
+    };
+    compare_both(&picture[0..n], &strip[0..m], same, refused)
+}
+
+// Reads what follows the header of a list of retouches. The header has the picture's length where other calls have the input's, the strip's where they have the output's.
+fn replay_list(header: &[u8; 16]) -> Outcome {
+    let c = call_of(header);
+    let mut chain = [0u8; 16384];
+    let mut data = [0u8; 16384];
+    let mut picture = [0u8; 16384];
+    let mut strip = [0u8; 16384];
+    if lacks_part(&mut chain, c.chain_len) {
+        return Outcome::Malformed;
+    }
+    if lacks_part(&mut data, c.data_len) {
+        return Outcome::Malformed;
+    }
+    if lacks_part(&mut picture, c.input_len) {
+        return Outcome::Malformed;
+    }
+    if lacks_part(&mut strip, c.output_len) {
+        return Outcome::Malformed;
+    }
+    replay_filled_list(c, &chain, &data, &mut picture, &mut strip)
+}
+
 fn replay_header(header: &[u8; 16]) -> Outcome {
     if header[0] <= 4 {
         return replay_single(header);
     }
     if header[0] <= 6 {
         return replay_call(header);
+    }
+    if header[0] == 7 {
+        return replay_list(header);
     }
     Outcome::Malformed
 }

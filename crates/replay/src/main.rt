@@ -4,6 +4,8 @@ mod calls;
 mod case;
 mod entries;
 mod list;
+mod parts;
+mod retouches;
 mod sizes;
 mod tally;
 mod transforms;
@@ -14,14 +16,15 @@ use list::replay_next;
 use tally::count;
 use tally::report;
 use tally::report_call;
+use tally::report_list;
 use tally::report_refused;
 
 // A proved loop has to end, and nothing says that an input does: the turns are counted down, from a number that no run uses up.
 fn replay_all(
-    cases: &mut [u64; 7],
-    differences: &mut [u64; 7],
-    lost: &mut [u64; 7],
-    refusals: &mut [u64; 7],
+    cases: &mut [u64; 8],
+    differences: &mut [u64; 8],
+    lost: &mut [u64; 8],
+    refusals: &mut [u64; 8],
 ) {
     let mut turns = u64::MAX;
     while turns > 0 && replay_counted(cases, differences, lost, refusals) {
@@ -31,10 +34,10 @@ fn replay_all(
 
 // Replays the next case and counts it. Says whether to go on: not after a malformed case, since the next header is then not found.
 fn replay_counted(
-    cases: &mut [u64; 7],
-    differences: &mut [u64; 7],
-    lost: &mut [u64; 7],
-    refusals: &mut [u64; 7],
+    cases: &mut [u64; 8],
+    differences: &mut [u64; 8],
+    lost: &mut [u64; 8],
+    refusals: &mut [u64; 8],
 ) -> bool {
     match replay_next() {
         Next::Compared {
@@ -58,10 +61,10 @@ fn replay_counted(
 }
 
 fn main() {
-    let mut cases = [0u64; 7];
-    let mut differences = [0u64; 7];
-    let mut lost = [0u64; 7];
-    let mut refusals = [0u64; 7];
+    let mut cases = [0u64; 8];
+    let mut differences = [0u64; 8];
+    let mut lost = [0u64; 8];
+    let mut refusals = [0u64; 8];
     replay_all(&mut cases, &mut differences, &mut lost, &mut refusals);
     report(b"predictor: ", cases[0], differences[0], lost[0]);
     report(b"color: ", cases[1], differences[1], lost[1]);
@@ -73,4 +76,6 @@ fn main() {
     report_refused(b"rebuild by a chain: ", cases[5], refusals[5]);
     report_call(b"store by a chain: ", cases[6], differences[6]);
     report_refused(b"store by a chain: ", cases[6], refusals[6]);
+    report_call(b"lists of retouches: ", cases[7], differences[7]);
+    report_list(b"lists of retouches: ", cases[7], refusals[7]);
 }

@@ -1,4 +1,4 @@
-// Counts of each kind of case, five transforms and two calls, and the lines that give them.
+// Counts of each kind of case, five transforms and three calls, and the lines that give them.
 use libc::STDOUT_FILENO;
 use std::num::wrapping_add_u64;
 use std::num::wrapping_sub_u64;
@@ -8,10 +8,10 @@ fn index(kind: u8) -> usize {
 }
 
 // One more for the kind, where `counted`. No run reaches the number at which a count wraps.
-pub fn count(counts: &mut [u64; 7], kind: u8, counted: bool) {
+pub fn count(counts: &mut [u64; 8], kind: u8, counted: bool) {
     let at = index(kind);
     if counted {
-        if at < 7 {
+        if at < 8 {
             counts[at] = wrapping_add_u64(counts[at], 1);
         }
     }
@@ -38,4 +38,13 @@ pub fn report_call(name: &[u8], cases: u64, differences: u64) {
 pub fn report_refused(name: &[u8], cases: u64, refusals: u64) {
     put(name, b" accepted, ", wrapping_sub_u64(cases, refusals));
     put(b"", b" refused\n", refusals);
+}
+
+pub fn report_list(name: &[u8], cases: u64, refusals: u64) {
+    put(
+        name,
+        b" accepted throughout, ",
+        wrapping_sub_u64(cases, refusals),
+    );
+    put(b"", b" with a refusal\n", refusals);
 }

@@ -12,7 +12,7 @@ use Rattle.format.specs.Refusals.{chainRefusal}
 use Rattle.format.specs.Stages.{stored, accepts}
 use Rattle.format.specs.Calls.{holds, records, storeAnswer, storeStrip}
 use Rattle.format.proofs.Valid.{before-none, before-some}
-use Rattle.format.proofs.Stages.{stored-steps, accepts-steps}
+use Rattle.format.proofs.Steps.{stored-steps, accepts-steps}
 use Rattle.format.proofs.Calls.{store-accepts, storeStrip-accepted, storeStrip-refused}
 use Rattle.chain.specs.declared.Chain.{Chain}
 use Rattle.chain.specs.Reading.{ChainOf}

@@ -6,6 +6,7 @@ mod color_pictures;
 mod limits;
 mod predictor_pictures;
 mod print;
+mod retouch_pictures;
 mod table_pictures;
 
 fn main() {
@@ -21,5 +22,9 @@ fn main() {
     table_pictures::bundles();
     table_pictures::empty_chain();
     table_pictures::table_then_predictor();
+    retouch_pictures::middle();
+    retouch_pictures::shared();
+    retouch_pictures::five();
+    retouch_pictures::entries();
     limits::limits();
 }

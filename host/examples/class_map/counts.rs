@@ -13,12 +13,17 @@ pub fn table(picture: &Picture) -> String {
     let shares = shares(&counts);
     let mut table = format!("{:<10}{:>10}{:>10}\n", "color", "pixels", "share");
     for ((color, count), share) in counts.iter().zip(&shares) {
-        let color = color.to_bytes().map(|byte| format!("{byte:02x}")).concat();
-        line(&mut table, &format!("#{color}"), *count, *share);
+        line(&mut table, &hex(*color), *count, *share);
     }
     let all = counts.iter().map(|(_, count)| count).sum();
     line(&mut table, "all", all, shares.iter().sum());
     table
+}
+
+/// The name of a color: #rrggbbaa.
+pub fn hex(color: Pixel) -> String {
+    let digits = color.to_bytes().map(|byte| format!("{byte:02x}"));
+    format!("#{}", digits.concat())
 }
 
 fn line(table: &mut String, name: &str, count: usize, share: usize) {

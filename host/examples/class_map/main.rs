@@ -1,7 +1,9 @@
-//! Stores a class map, rebuilds it, counts its colors, and writes the rebuilt map as a PNG.
+//! Stores a class map, rebuilds it, counts its colors, writes the rebuilt map as a PNG, and corrects a
+//! pixel of it.
 //!
 //!     class_map [MAP.ppm [PICTURE.png]]
 
+mod correction;
 mod counts;
 mod encoder;
 mod png;
@@ -63,6 +65,6 @@ fn run(map: &Path, picture: &Path) -> Result<(), Box<dyn Error>> {
 
     fs::write(picture, png::write(&rebuilt))
         .map_err(|error| format!("{}: {error}", picture.display()))?;
-    println!("\nwritten    {}", picture.display());
-    Ok(())
+    println!("\nwritten    {}\n", picture.display());
+    correction::show(chain, rebuilt)
 }

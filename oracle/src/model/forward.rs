@@ -50,17 +50,23 @@ pub fn subtract_green(pixels: &[Pixel]) -> Vec<Pixel> {
 
 /// Packs the lowest indices; nothing where a pixel has no entry.
 pub fn color_table(width: u16, entries: &[u8], pixels: &[Pixel]) -> Option<Vec<Pixel>> {
+    packed(width, entries, pixels).into_iter().collect()
+}
+
+/// The packed pixels; nothing for one in which a pixel has no entry.
+pub fn packed(width: u16, entries: &[u8], pixels: &[Pixel]) -> Vec<Option<Pixel>> {
     let (entries, _) = entries.as_chunks::<4>();
     let n = usize::from(indices_in_byte(entries.len() as u16));
-    let index = |pixel| entries.iter().position(|entry| entry == pixel);
-    let indices: Vec<usize> = pixels.iter().map(index).collect::<Option<_>>()?;
-    let packed = |indices: &[usize]| {
-        let places = (0..).step_by(8 / n).zip(indices);
-        let byte: usize = places.map(|(bit, index)| index << bit).sum();
-        [0, byte as u8, 0, 255]
+    let index = |pixel: &Pixel| entries.iter().position(|entry| entry == pixel);
+    let packed = |pixels: &[Pixel]| {
+        let mut byte = 0;
+        for (place, pixel) in pixels.iter().enumerate() {
+            byte |= index(pixel)? << (8 / n * place);
+        }
+        Some([0, byte as u8, 0, 255])
     };
-    let rows = indices.chunks(width.into());
-    Some(rows.flat_map(|row| row.chunks(n).map(packed)).collect())
+    let rows = pixels.chunks(width.into());
+    rows.flat_map(|row| row.chunks(n).map(packed)).collect()
 }
 
 /// The data pixel of the block that (x, y) is in.
@@ -92,6 +98,51 @@ fn predicted(width: usize, mode: u8, pixels: &[Pixel], x: usize, y: usize) -> Pi
                 at(x - 1, y - 1),
             )
         }
+    }
+}
+
+/// The pixels that the prediction of pixel i names: by the border rules, then by the mode.
+pub fn named(width: u16, bits: u8, blocks: &[u8], i: usize) -> Vec<usize> {
+    let width = usize::from(width);
+    let at = |x: usize, y: usize| y * width + x;
+    let (x, y) = (i % width, i / width);
+    match (x, y) {
+        (0, 0) => vec![],
+        (_, 0) => vec![at(x - 1, 0)],
+        (0, _) => vec![at(0, y - 1)],
+        _ => {
+            let top_right = if x + 1 == width {
+                at(0, y)
+            } else {
+                at(x + 1, y - 1)
+            };
+            let mode = block(width, bits, blocks, x, y)[1];
+            named_by_mode(
+                mode,
+                at(x - 1, y),
+                at(x, y - 1),
+                top_right,
+                at(x - 1, y - 1),
+            )
+        }
+    }
+}
+
+fn named_by_mode<T>(mode: u8, l: T, t: T, tr: T, tl: T) -> Vec<T> {
+    match mode {
+        0 => vec![],
+        1 => vec![l],
+        2 => vec![t],
+        3 => vec![tr],
+        4 => vec![tl],
+        5 => vec![l, tr, t],
+        6 => vec![l, tl],
+        7 => vec![l, t],
+        8 => vec![tl, t],
+        9 => vec![t, tr],
+        10 => vec![l, tl, t, tr],
+        11..=13 => vec![l, t, tl],
+        14..=255 => vec![],
     }
 }
 
@@ -145,4 +196,32 @@ fn delta(t: u8, c: u8) -> u8 {
 
 fn channels(channel: impl Fn(usize) -> u8) -> Pixel {
     std::array::from_fn(channel)
+}
+
+#[cfg(test)]
+mod tests {
+    use super::{by_mode, named_by_mode, Pixel};
+    use crate::random::Xorshift;
+
+    /// A mode names exactly the neighbors that its prediction varies with.
+    #[test]
+    fn modes_name_what_they_look_at() {
+        let mut random = Xorshift::new(0x0FC1_9DC6_8B8C_D5B5);
+        for mode in 0..=255 {
+            let named = named_by_mode(mode, 0, 1, 2, 3);
+            for neighbor in 0..4 {
+                let varies = (0..1000).any(|_| {
+                    let mut pixels: [Pixel; 4] = [(); 4].map(|()| random.pixel());
+                    let before = of(mode, pixels);
+                    pixels[neighbor] = random.pixel();
+                    of(mode, pixels) != before
+                });
+                assert_eq!(varies, named.contains(&neighbor), "{mode}, {neighbor}");
+            }
+        }
+    }
+
+    fn of(mode: u8, [l, t, tr, tl]: [Pixel; 4]) -> Pixel {
+        by_mode(mode, l, t, tr, tl)
+    }
 }

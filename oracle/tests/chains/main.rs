@@ -10,9 +10,6 @@ fn chains_are_compared_with_the_rust() {}
 mod compared;
 
 #[cfg(rust_source)]
-mod damage;
-
-#[cfg(rust_source)]
 mod rebuild;
 
 #[cfg(rust_source)]

@@ -1,7 +1,7 @@
 //! Every refusal under its condition and under no other, and which of two comes first.
 
 use crate::compared::Compared;
-use crate::damage::{damages, Damage, Input};
+use oracle::damage::{damages, Damage, Input};
 use oracle::given::{orders, record, Given, Plan, COLOR, COLOR_TABLE, PREDICTOR};
 
 const ALL: [u32; 9] = [1, 2, 3, 4, 5, 6, 7, 8, 21];

@@ -168,7 +168,7 @@ impl Line {
         };
         let mut given = plan.given(random);
         for (at, &kind) in self.kinds.iter().enumerate() {
-            let part = part(&mut given, at);
+            let part = given.part_mut(at);
             if kind == PREDICTOR {
                 for block in part {
                     block[1] = self.mode.unwrap_or_else(|| random.below(14) as u8);
@@ -179,14 +179,4 @@ impl Line {
         }
         given
     }
-}
-
-/// The data of a record.
-fn part(given: &mut Given, record: usize) -> &mut [[u8; 4]] {
-    let field = |at: usize| {
-        let bytes = &given.chain[16 * record + at..16 * record + at + 4];
-        u32::from_le_bytes(bytes.try_into().unwrap()) as usize
-    };
-    let (offset, length) = (field(4), field(8));
-    given.data[offset..offset + length].as_chunks_mut().0
 }

@@ -97,7 +97,7 @@ fn rebuild(given: &Given, image: &mut [u8]) -> u32 {
     calls::rebuild(given.width, given.height, &given.chain, &given.data, image)
 }
 
-fn store(given: &Given, picture: &[u8], strip: &mut [u8]) -> u32 {
+pub fn store(given: &Given, picture: &[u8], strip: &mut [u8]) -> u32 {
     let Given {
         width,
         height,
@@ -107,7 +107,7 @@ fn store(given: &Given, picture: &[u8], strip: &mut [u8]) -> u32 {
     calls::store(*width, *height, chain, data, picture, strip)
 }
 
-fn timed(call: impl FnOnce() -> u32) -> f64 {
+pub fn timed(call: impl FnOnce() -> u32) -> f64 {
     let start = Instant::now();
     let answer = call();
     let elapsed = start.elapsed();
@@ -115,7 +115,7 @@ fn timed(call: impl FnOnce() -> u32) -> f64 {
     1000.0 * elapsed.as_secs_f64()
 }
 
-fn median(times: &[f64]) -> f64 {
+pub fn median(times: &[f64]) -> f64 {
     let mut times = times.to_vec();
     times.sort_by(f64::total_cmp);
     times[times.len() / 2]

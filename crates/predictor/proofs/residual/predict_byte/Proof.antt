@@ -2,7 +2,7 @@
 use mathlib.Core.Path.{sym}
 use borrow.Author.Needs.{needs}
 use Rattle.predictor.specs.Bytewise.{predictByte}
-use Rattle.predictor.proofs.Modes.{past-13}
+use Rattle.format.proofs.Modes.{past-13}
 use Rattle.predictor.proofs.Residuals.{byte-over-13}
 use Rattle.predictor.proofs.residual.predict_byte.Statement.{statement}
 use Rattle.predictor.proofs.residual.predict_byte.Tie as tie

@@ -1,6 +1,7 @@
 -- `rebuild_segment` meets its contract: each arm's loop is that of its mode, and past mode 13 nothing changes.
 use borrow.Author.Needs.{needs}
-use Rattle.predictor.proofs.Modes.{past-13, run-over-13}
+use Rattle.format.proofs.Modes.{past-13}
+use Rattle.predictor.proofs.Modes.{run-over-13}
 use Rattle.predictor.proofs.segment.rebuild_segment.Statement.{statement}
 use Rattle.predictor.proofs.segment.rebuild_segment.Tie as tie
 

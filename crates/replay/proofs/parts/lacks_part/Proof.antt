@@ -3,8 +3,8 @@ use mathlib.Core.Path.{_≡_}
 use Prim.Native.Nat.{ℕ}
 use native.Mathlib.Omega.{arith}
 use borrow.Author.Needs.{needs}
-use Rattle.replay.proofs.list.lacks_part.Statement.{statement}
-use Rattle.replay.proofs.list.lacks_part.Tie as tie
+use Rattle.replay.proofs.parts.lacks_part.Statement.{statement}
+use Rattle.replay.proofs.parts.lacks_part.Tie as tie
 
 pub lacks-part-spec : {M : Type 1} → statement M
 lacks-part-spec =

@@ -1,16 +1,22 @@
 //! Inputs that are accepted, and ways to damage them, each of which calls for one refusal.
 
-use oracle::given::{Given, Plan, COLOR_TABLE, SUBTRACT_GREEN};
-use oracle::random::Xorshift;
+use crate::calls::Retouch;
+use crate::given::{Given, Plan, COLOR_TABLE, SUBTRACT_GREEN};
+use crate::model;
+use crate::random::Xorshift;
 
-/// What both calls are given. The picture's buffer is also rebuilding's one buffer.
+/// What the calls are given. The picture's buffer is also rebuilding's one buffer. The retouch
+/// paints a pixel with the color that it has.
 #[derive(Clone)]
 pub struct Input {
     pub given: Given,
     pub picture: Vec<u8>,
     pub strip: Vec<u8>,
-    /// The picture with one pixel that has no entry, where there is a table.
+    pub retouch: Retouch,
+    /// Where there is a table: the picture with one pixel that has no entry.
     unstorable: Option<Vec<u8>>,
+    /// Where there is a table: a color that the retouched pixel cannot take.
+    without_entry: Option<[u8; 4]>,
 }
 
 pub struct Damage {
@@ -28,15 +34,40 @@ impl Input {
         let picture = given.storable(random);
         let strip = random.bytes(given.valid().strip_len());
         let pixel = random.below(picture.len() / 4);
-        let unstorable = plan
-            .kinds
-            .contains(&COLOR_TABLE)
-            .then(|| given.unstorable(random, pixel));
+        let table = plan.kinds.contains(&COLOR_TABLE);
+        let unstorable = table.then(|| given.unstorable(random, pixel));
+        let retouch = Retouch {
+            x: pixel as u32 % given.width,
+            y: pixel as u32 / given.width,
+            color: picture.as_chunks().0[pixel],
+        };
+        let without_entry = table.then(|| without_entry(random, &given, &picture, pixel));
         Self {
             given,
             picture,
             strip,
+            retouch,
             unstorable,
+            without_entry,
+        }
+    }
+}
+
+/// Any color with which storing does not accept the picture.
+fn without_entry(random: &mut Xorshift, given: &Given, picture: &[u8], pixel: usize) -> [u8; 4] {
+    let Given {
+        width,
+        height,
+        chain,
+        data,
+    } = given;
+    let mut picture = picture.to_vec();
+    let mut strip = vec![0; picture.len()];
+    loop {
+        let color = random.pixel();
+        picture[4 * pixel..4 * pixel + 4].copy_from_slice(&color);
+        if model::store(*width, *height, chain, data, &picture, &mut strip) == 21 {
+            return color;
         }
     }
 }
@@ -72,17 +103,37 @@ impl Damage {
     }
 
     /// Of two damages the one with the lesser place is answered: 1, 2; then 3 to 7 on each record
-    /// in turn; then 8, 21.
+    /// in turn; then 8, 9, 21 or 22.
     pub fn place(&self) -> (u32, usize, u32) {
         match self.number {
             3..=7 => (3, self.record, self.number),
-            8 | 21 => (4, 0, self.number),
+            8.. => (4, 0, self.number),
             _ => (self.number, 0, 0),
         }
     }
 }
 
+/// Those for rebuilding and storing.
 pub fn damages(input: &Input) -> Vec<Damage> {
+    let mut damages = common_damages(input);
+    if let Some(unstorable) = input.unstorable.clone() {
+        let without_entry = Damage::new(21, move |input| input.picture.clone_from(&unstorable));
+        damages.push(without_entry.storing_only());
+    }
+    damages
+}
+
+/// Those for retouching.
+pub fn retouch_damages(input: &Input) -> Vec<Damage> {
+    let mut damages = common_damages(input);
+    damages.extend(points(&input.given));
+    if let Some(color) = input.without_entry {
+        damages.push(Damage::new(22, move |input| input.retouch.color = color));
+    }
+    damages
+}
+
+fn common_damages(input: &Input) -> Vec<Damage> {
     let mut damages = sides(&input.given);
     damages.extend(chain_lengths(input.given.chain.len()));
     for record in 0..input.given.chain.len() / 16 {
@@ -180,7 +231,7 @@ fn parts(given: &Given, record: usize) -> Vec<Damage> {
     damages
 }
 
-/// Refusals 8 and 21.
+/// Refusal 8.
 fn buffers(input: &Input) -> Vec<Damage> {
     let mut damages = Vec::new();
     let (picture, strip) = (input.picture.len(), input.strip.len());
@@ -194,9 +245,21 @@ fn buffers(input: &Input) -> Vec<Damage> {
         let short = Damage::new(8, move |input| input.strip.truncate(len));
         damages.push(short.storing_only());
     }
-    if let Some(unstorable) = input.unstorable.clone() {
-        let without_entry = Damage::new(21, move |input| input.picture.clone_from(&unstorable));
-        damages.push(without_entry.storing_only());
+    damages
+}
+
+/// Refusal 9: just outside, far outside, and right in the low 16 bits.
+fn points(given: &Given) -> Vec<Damage> {
+    let mut damages = Vec::new();
+    for (x, y) in [
+        (given.width, given.height),
+        (16384, 16384),
+        (65536, 65536),
+        (1 << 31, 1 << 31),
+        (u32::MAX, u32::MAX),
+    ] {
+        damages.push(Damage::new(9, move |input| input.retouch.x = x));
+        damages.push(Damage::new(9, move |input| input.retouch.y = y));
     }
     damages
 }

@@ -1,0 +1,149 @@
+-- A record of indices, column by column.
+use mathlib.Core.Bool.{Bool, true, false, not, _||_}
+use mathlib.Core.List.{[], _∷_}
+use mathlib.Core.Path.{_≡_, refl, sym, ap, _∙_}
+use Prim.Native.Nat.{ℕ, zero, suc, _+_, _-_, _*_, _^_, _<_, _≤_}
+use native.Mathlib.Nat.{add-zero, one-le-pow, pow-succ'}
+use native.Mathlib.Decide.{decLt}
+use native.Mathlib.Omega.{arith}
+use borrow.Author.Tests.{lt-ltb, le-ltb, ltb-true}
+use Rattle.format.specs.declared.Pixel.{Pixel}
+use Rattle.format.specs.Choice.{if_then_else_}
+use Rattle.format.specs.Indices.{some}
+use Rattle.format.specs.Pixel.{pixel}
+use Rattle.format.specs.Picture.{Picture}
+use Rattle.format.specs.ColorTable.{perPixel, range, indexOf, hasEntry, indexAt, digits}
+use Rattle.format.specs.Made.{columns}
+use Rattle.color_table.proofs.Digits.{base-of, digits-same, small-more, weight-small}
+use Rattle.item.specs.declared.Made.{Made}
+use Rattle.item.specs.declared.Made.the-variants.{Item, Missing}
+use Rattle.item.specs.Made.{made, whenMade}
+use Rattle.item.specs.Table.{recordFrom, joinedMade, Room}
+use Rattle.item.proofs.WhenMade.{made-item}
+
+-- a column and those after it
+joined-made : (size : ℕ) (e : Picture) (a b : Bool) (v p : Pixel)
+    → joinedMade size e (made a v) (made b p) ≡ made ((a || not (hasEntry size e v)) || b) (pixel 0 (indexOf size e v + range (perPixel size) * p .green) 0 255)
+unfolding joinedMade whenMade made
+joined-made size e true b v p = refl
+joined-made size e false true v p = go (hasEntry size e v)
+  where
+    go : (h : Bool) → Missing ≡ made (not h || true) (pixel 0 (indexOf size e v + range (perPixel size) * p .green) 0 255)
+    go true = refl
+    go false = refl
+joined-made size e false false v p = go (hasEntry size e v)
+  where
+    go : (h : Bool) → (if h then Item (pixel 0 (indexOf size e v + range (perPixel size) * p .green) 0 255) else Missing) ≡ made (not h || false) (pixel 0 (indexOf size e v + range (perPixel size) * p .green) 0 255)
+    go true = refl
+    go false = refl
+
+module _ (size : ℕ) (e : Picture) (first rest : Made) (v p : Pixel) (i : ℕ) where
+  pub joined-missing : first ≡ Item v → rest ≡ Item p → i ≡ indexOf size e v → size ≤ i → Missing ≡ joinedMade size e first rest
+  unfolding joinedMade whenMade
+  joined-missing a b q l = rw (a, b, le-ltb (indexOf size e v) size (rw (← q) l))
+
+  pub joined-item : (r : Pixel) (w : ℕ) → first ≡ Item v → rest ≡ Item p → i ≡ indexOf size e v → i < size → w ≡ range (perPixel size) → r ≡ pixel 0 (i + w * p .green) 0 255 → Item r ≡ joinedMade size e first rest
+  unfolding joinedMade whenMade
+  joined-item r w a b q l d c = rw (a, b, lt-ltb (indexOf size e v) size (rw (← q) l), c, q, d)
+
+-- one index more fits a byte
+pub byte-fits : (size u w i g : ℕ) → u * g + u ≤ 256 → w ≡ u → i < size → size ≤ w → i + w * g < 256
+byte-fits size u w i g r d l f = rw d (omega arith)
+
+or-left : (a b : Bool) → (a || b) ≡ false → a ≡ false
+or-left false b e = refl
+or-left true b e = e
+
+or-right : (a b : Bool) → (a || b) ≡ false → b ≡ false
+or-right false b e = e
+or-right true b e = absurd (let z : _≡_ {A = ℕ} 0 1 = cc in omega arith)
+
+not-false : (b : Bool) → not b ≡ false → b ≡ true
+not-false true e = refl
+not-false false e = sym e
+
+module _ (w size : ℕ) (e f : Picture) (y : ℕ) where
+  abbrev u : ℕ
+  u = range (perPixel size)
+
+  -- the byte of n columns from x on
+  abbrev byte : ℕ → ℕ → ℕ
+  byte n x = digits u n (λ k. indexAt w size e f y (x + k))
+
+  byte-more : (n x : ℕ) → byte (suc n) x ≡ indexAt w size e f y x + u * byte n (x + 1)
+  unfolding digits
+  byte-more n x =
+      let s = digits-same u n (λ k. indexAt w size e f y (x + suc k)) (λ k. indexAt w size e f y (x + 1 + k)) (λ k l. let a : x + suc k ≡ x + 1 + k = omega arith in ap (indexAt w size e f y) a) in
+      let z = ap (indexAt w size e f y) (add-zero x) in
+      cc (s, z)
+
+  index-past : (x : ℕ) → w ≤ x → indexAt w size e f y x ≡ 0
+  index-past x l = rw (le-ltb x w l)
+
+  index-here : (x : ℕ) → x < w → indexAt w size e f y x ≡ indexOf size e (f (y * w + x))
+  index-here x l = rw (lt-ltb x w l)
+
+  byte-past : (n x : ℕ) → w ≤ x → byte n x ≡ 0
+  unfolding digits
+  byte-past zero x l = refl
+  byte-past (suc n) x l =
+      let r = byte-past n (x + 1) (omega arith) in
+      byte-more n x ∙ rw (index-past x l, r) (omega arith)
+
+  columns-past : (n x : ℕ) → w ≤ x → columns w y n x ≡ []
+  unfolding columns
+  columns-past zero x l = refl
+  columns-past (suc n) x l = rw (le-ltb x w l)
+
+  columns-here : (n x : ℕ) → x < w → columns w y (suc n) x ≡ (y * w + x) ∷ columns w y n (x + 1)
+  unfolding columns
+  columns-here n x l = let s : suc x ≡ x + 1 = omega arith in rw (lt-ltb x w l, s)
+
+  module _ (t : ℕ → Bool) where
+    -- no column, and columns past the row's end
+    pub no-columns : (n x : ℕ) (p : Pixel) → n ≡ 0 → p ≡ pixel 0 0 0 255 → Item p ≡ made (some t (columns w y n x)) (recordFrom w size e f y n x)
+    unfolding made recordFrom columns digits
+    no-columns n x p z q = rw (z, q)
+
+    pub columns-end : (n x : ℕ) (p : Pixel) → w ≤ x → p ≡ pixel 0 0 0 255 → Item p ≡ made (some t (columns w y n x)) (recordFrom w size e f y n x)
+    unfolding made recordFrom
+    columns-end n x p l q = rw (columns-past n x l, byte-past n x l, q)
+
+    module _ (was : ℕ → Bool) (lacking : (q : ℕ) → t q ≡ (was q || not (hasEntry size e (f q)))) where
+      -- one column more
+      pub columns-more : (n m x : ℕ) (r first rest : Made) → n ≡ suc m → x < w → r ≡ joinedMade size e first rest → first ≡ made (was (y * w + x)) (f (y * w + x))
+          → rest ≡ made (some t (columns w y m (x + 1))) (recordFrom w size e f y m (x + 1)) → r ≡ made (some t (columns w y n x)) (recordFrom w size e f y n x)
+      unfolding recordFrom
+      columns-more n m x r first rest z l a b c =
+          a
+          ∙ rw (b, c)
+          (joined-made size e (was (y * w + x)) (some t (columns w y m (x + 1))) (f (y * w + x)) (recordFrom w size e f y m (x + 1))
+          ∙ rw (z, columns-here m x l, byte-more m x, index-here x l, lacking (y * w + x)))
+
+      has : (q : ℕ) → t q ≡ false → indexOf size e (f q) < size
+      has q z = ltb-true (indexOf size e (f q)) size (not-false (hasEntry size e (f q)) (or-right (was q) (not (hasEntry size e (f q))) (sym (lacking q) ∙ z)))
+
+      -- indices that were found are digits
+      byte-small : size ≤ u → 1 ≤ u → (n x : ℕ) → some t (columns w y n x) ≡ false → byte n x < u ^ n
+      unfolding digits
+      byte-small fits pos zero x z = one-le-pow 0 u pos
+      byte-small fits pos (suc n) x z = go (decLt x w) (byte-small fits pos n (x + 1))
+        where
+          go : Dec (x < w) → (some t (columns w y n (x + 1)) ≡ false → byte n (x + 1) < u ^ n) → byte (suc n) x < u ^ suc n
+          go (yes l) ih =
+              let c = ap (some t) (sym (columns-here n x l)) ∙ z in
+              let i = has (y * w + x) (or-left (t (y * w + x)) (some t (columns w y n (x + 1))) c) in
+              let r = ih (or-right (t (y * w + x)) (some t (columns w y n (x + 1))) c) in
+              rw (byte-more n x, index-here x l, pow-succ' u n) (small-more (u ^ n) (indexOf size e (f (y * w + x))) u (byte n (x + 1)) (omega arith) r)
+          go (no l) ih = rw (byte-past (suc n) x (omega arith)) (one-le-pow (suc n) u pos)
+
+      pub columns-room : size ≤ 256 → (n x : ℕ) → n < perPixel size → Room u (made (some t (columns w y n x)) (recordFrom w size e f y n x))
+      unfolding recordFrom
+      columns-room small n x l p q =
+          let b = base-of size (perPixel size) u small refl refl in
+          let m = made-item (some t (columns w y n x)) (recordFrom w size e f y n x) p (sym q) in
+          let two = b .two in
+          let r = byte-small (b .fits) (omega arith) n x (m .0) in
+          let z = small-more (u ^ n) (u - 1) u (byte n x) (omega arith) r in
+          let k = weight-small u (suc n) (perPixel size) (u ^ suc n) refl (b .whole) two l in
+          rw (m .1) (omega (arith, pow-succ' u n))

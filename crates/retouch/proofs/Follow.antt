@@ -1,0 +1,110 @@
+-- Laws of a point's spots on their way through a chain.
+use mathlib.Core.Bool.{Bool, true, false}
+use mathlib.Core.List.{List, [], _∷_}
+use mathlib.Core.Path.{_≡_, refl, sym, ap, _∙_}
+use Prim.Native.Nat.{ℕ, zero, suc, _+_, _*_, _/_, _%_, _<_, _≤_}
+use native.Mathlib.Nat.{mul-le-mul-left, div-add-mod', div-le-self}
+use native.Mathlib.Numerals.{add-one}
+use native.Mathlib.Omega.{arith}
+use borrow.Author.Tests.{ne-eqb}
+use lib.Dec.{eqb}
+use lib.ListN.{length, getD, take, drop, length-append}
+use lib.Seq.{drop-cons, drop-length, length-take-le}
+use Rattle.format.specs.Choice.{if_then_else_}
+use Rattle.format.specs.Indices.{union}
+use Rattle.format.specs.declared.Step.{Step}
+use Rattle.format.specs.ColorTable.{packedWidth}
+use Rattle.format.specs.Retouch.{fiveSpots, packedOver, spotsOf, spotRecords}
+use Rattle.format.proofs.ByKind.{narrowed-table}
+use Rattle.format.proofs.Stages.{narrowed-fewer}
+use Rattle.chain.specs.Ready.{Ready}
+use Rattle.chain.proofs.Ready.{step-sized}
+use Rattle.retouch.specs.Spots.{Followed, placed}
+
+-- packed columns p of w: a packed pixel's number is no larger than those of the items that it holds
+module _ (w p q : ℕ) (l : p ≤ w) where
+  pub rows-less : q / w * p ≤ q
+  rows-less = omega (arith, mul-le-mul-left {m = p} {n = w} (q / w) l, div-add-mod' q w)
+
+  pub packed-less : (n : ℕ) → q / w * p + q % w / n ≤ q
+  packed-less n = omega (arith, mul-le-mul-left {m = p} {n = w} (q / w) l, div-add-mod' q w, div-le-self (q % w) n)
+
+pub packed-fewer : (s : Step) (p : ℕ) → s .kind ≡ 3 → p ≡ packedWidth (s .size) (s .width) → p ≤ s .width
+packed-fewer s p e q = rw (q, ← narrowed-table s e) (narrowed-fewer s)
+
+-- five records as they stand in an array
+five : (xs : List ℕ) → length xs ≡ 5 → xs ≡ getD xs 0 0 ∷ getD xs 1 0 ∷ getD xs 2 0 ∷ getD xs 3 0 ∷ getD xs 4 0 ∷ []
+five xs l =
+    let e : drop 5 xs ≡ [] = rw l at (drop-length xs) in
+    cc (
+      drop-cons xs 0 0 (omega arith),
+      drop-cons xs 1 0 (omega arith),
+      drop-cons xs 2 0 (omega arith),
+      drop-cons xs 3 0 (omega arith),
+      drop-cons xs 4 0 (omega arith),
+    )
+
+-- a record that is no predictor moves each
+
+abbrev moved : (ℕ → ℕ) → List ℕ → List ℕ
+moved g [] = []
+moved g (q ∷ qs) = g q ∷ moved g qs
+
+spotsOf-placed : (s : Step) → (s .kind ≡ 0 → ⊥) → (q : ℕ) → spotsOf s q ≡ placed s q ∷ []
+unfolding spotsOf placed
+spotsOf-placed s n q = rw (ne-eqb (s .kind) 0 n) (go (eqb (s .kind) 3))
+  where
+    go : (b : Bool) → (if b then packedOver (s .width) (s .size) q ∷ [] else q ∷ []) ≡ (if b then packedOver (s .width) (s .size) q else q) ∷ []
+    go true = refl
+    go false = refl
+
+union-moved : (h : ℕ → List ℕ) (g : ℕ → ℕ) → ((q : ℕ) → h q ≡ g q ∷ []) → (n : ℕ) (xs : List ℕ) → union h (take n xs) ≡ take n (moved g xs)
+union-moved h g e zero xs = refl
+union-moved h g e (suc n) [] = refl
+union-moved h g e (suc n) (q ∷ xs) = cc (e q, union-moved h g e n xs)
+
+pub follow-placed : (s : Step) (xs ys : List ℕ) (n : ℕ) → (s .kind ≡ 0 → ⊥) → length xs ≡ 5
+    → ys ≡ placed s (getD xs 0 0) ∷ placed s (getD xs 1 0) ∷ placed s (getD xs 2 0) ∷ placed s (getD xs 3 0) ∷ placed s (getD xs 4 0) ∷ []
+    → take n ys ≡ union (spotsOf s) (take n xs)
+follow-placed s xs ys n d l e =
+    let p : moved (placed s) xs ≡ ys = ap (moved (placed s)) (five xs l) ∙ sym e in
+    rw (union-moved (spotsOf s) (placed s) (spotsOf-placed s d) n xs, p)
+
+-- a predictor has five spots for the one item
+pub follow-predictor : (s : Step) (xs ys : List ℕ) (n : ℕ) → s .kind ≡ 0 → n ≡ 1 → length xs ≡ 5 → ys ≡ fiveSpots (s .width) (getD xs 0 0) → take 5 ys ≡ union (spotsOf s) (take n xs)
+unfolding spotsOf
+follow-predictor s xs ys n k one l e = rw (one, e, five xs l, k)
+
+-- the records so far
+
+length-union : (h : ℕ → List ℕ) (xs : List ℕ) → ((q : ℕ) → length (h q) ≡ 1) → length (union h xs) ≡ length xs
+length-union h [] e = refl
+length-union h (q ∷ xs) e = length-append (h q) (union h xs) ∙ omega (arith, e q, length-union h xs e)
+
+-- before a predictor there is one
+one-spot : (steps : ℕ → Step) (p k : ℕ) → ((j : ℕ) → j < k → steps j .kind ≡ 0 → ⊥) → length (spotRecords steps k p) ≡ 1
+unfolding spotRecords
+one-spot steps p zero n = refl
+one-spot steps p (suc k) n =
+    length-union (spotsOf (steps k)) (spotRecords steps k p) (λ q. ap length (spotsOf-placed (steps k) (n k (omega arith)) q))
+    ∙ one-spot steps p k (λ j l. n j (omega arith))
+
+pub first-spot : (steps : ℕ → Step) (p : ℕ) → p ∷ [] ≡ spotRecords steps 0 p
+unfolding spotRecords
+first-spot steps p = refl
+
+pub spots-more : (steps : ℕ → Step) (p k : ℕ) (rs ts : List ℕ) → rs ≡ spotRecords steps k p → ts ≡ union (spotsOf (steps k)) rs → ts ≡ spotRecords steps (k + 1) p
+unfolding spotRecords
+spots-more steps p k rs ts e q = rw (add-one k, ← e) q
+
+pub one-taken : (steps : ℕ → Step) (p k n : ℕ) (xs : List ℕ) → ((j : ℕ) → j < k → steps j .kind ≡ 0 → ⊥) → take n xs ≡ spotRecords steps k p → n ≤ length xs → n ≡ 1
+one-taken steps p k n xs none e l = sym (length-take-le n xs l) ∙ ap length e ∙ one-spot steps p k none
+
+-- the records of a valid chain are followed
+pub ready-followed : (steps : ℕ → Step) (count w h n : ℕ) → Ready steps count w h n → Followed steps count
+ready-followed steps count w h n ready = record {
+  few = ready .few;
+  wide = λ k l. step-sized steps count w h n ready k l .wide;
+  narrow = λ k l. step-sized steps count w h n ready k l .narrow;
+  once = λ j k i l a b. ready .once j k i l (a ∙ sym b);
+}

@@ -1,0 +1,94 @@
+// The records of a point's spots: the point followed through the chain. A predictor has five spots for it, and a chain at most one predictor.
+use color_table::table::per_pixel;
+use color_table::unpack::Expanded;
+use color_table::unpack::packed_width;
+use format::Step;
+ghost use mathlib.Core.Path.{_≡_};
+ghost use mathlib.Core.List.{[], _∷_};
+ghost use Prim.Native.Nat.{_≤_};
+ghost use lib.ListN.{getD};
+ghost use Rattle.format.specs.Indices.{union};
+ghost use Rattle.format.specs.Retouch.{fiveSpots, packedOver, spotsOf, spotRecords};
+ghost use Rattle.chain.specs.Ready.{stepsIn};
+ghost use Rattle.retouch.specs.Spots.{Followed, Sound, placed, recordsOf};
+
+// The first `count` of `records`: one, or five in the order of the spots.
+pub struct Spots {
+    pub records: [usize; 5],
+    pub count: usize,
+}
+
+// The packed pixel that holds item q of a table's stage.
+fn packed_over(s: Step, q: usize) -> usize
+    requires { ⌜ (1 ≤ s .width) × (s .width ≤ 16384) × (s .kind ≡ 3) ⌝ }
+    ensures { λ r. ⌜ (r ≡ packedOver (s .width) (s .size) q) × (r ≤ q) ⌝ }
+{
+    let w = s.width;
+    let packed = packed_width(Expanded(w), s.size);
+    q / w * packed.0 + q % w / per_pixel(s.size)
+}
+
+// Where a record that is no predictor puts item q.
+fn place(s: Step, q: usize) -> usize
+    requires { ⌜ (1 ≤ s .width) × (s .width ≤ 16384) ⌝ }
+    ensures { λ r. ⌜ (r ≡ placed s q) × (r ≤ q) ⌝ }
+{
+    if s.kind == 3 { packed_over(s, q) } else { q }
+}
+
+fn place_each(s: Step, records: [usize; 5]) -> [usize; 5]
+    requires { ⌜ (1 ≤ s .width) × (s .width ≤ 16384) ⌝ }
+    ensures { λ r. ⌜ (r ≡ placed s (getD records 0 0) ∷ placed s (getD records 1 0) ∷ placed s (getD records 2 0) ∷ placed s (getD records 3 0) ∷ placed s (getD records 4 0) ∷ []) × (getD r 0 0 ≤ getD records 0 0) ⌝ }
+{
+    [
+        place(s, records[0]),
+        place(s, records[1]),
+        place(s, records[2]),
+        place(s, records[3]),
+        place(s, records[4]),
+    ]
+}
+
+// The spots of item p in a stage of w columns.
+fn five_spots(w: usize, p: usize) -> [usize; 5]
+    requires { ⌜ (1 ≤ w) × (w ≤ 16384) × (p ≤ 268435456) ⌝ }
+    ensures { λ r. ⌜ r ≡ fiveSpots w p ⌝ }
+{
+    [p, p + 1, p + w - 1, p + w, p + w + 1]
+}
+
+// The spots after one record more.
+fn follow(s: Step, spots: Spots) -> Spots
+    requires { ⌜ (1 ≤ s .width) × (s .width ≤ 16384) × (getD (spots .records) 0 0 ≤ 268435456) ⌝ }
+    requires { ⌜ Sound spots × (s .kind ≡ 0 → spots .count ≡ 1) ⌝ }
+    ensures { λ r. ⌜ (recordsOf r ≡ union (spotsOf s) (recordsOf spots)) × (getD (r .records) 0 0 ≤ getD (spots .records) 0 0) × Sound r ⌝ }
+{
+    let records = spots.records;
+    if s.kind == 0 {
+        return Spots {
+            records: five_spots(s.width, records[0]),
+            count: 5,
+        };
+    }
+    Spots {
+        records: place_each(s, records),
+        count: spots.count,
+    }
+}
+
+// The records of the spots of pixel p, after the first `count` records of a chain.
+pub fn spots_of(steps: [Step; 4], count: usize, p: usize) -> Spots
+    requires { ⌜ Followed (stepsIn steps) count × (p ≤ 268435456) ⌝ }
+    ensures { λ r. ⌜ (recordsOf r ≡ spotRecords (stepsIn steps) count p) × Sound r ⌝ }
+{
+    let mut spots = Spots {
+        records: [p, 0, 0, 0, 0],
+        count: 1,
+    };
+    let mut k = 0;
+    while k < count {
+        spots = follow(steps[k], spots);
+        k += 1;
+    }
+    spots
+}

@@ -1,4 +1,5 @@
-//! One retouch at a random point, on maps of three sizes, beside storing a map afresh.
+//! One retouch, on maps of three sizes, beside storing a map afresh: at points of one patch of the map, as a
+//! planner paints, and at points anywhere, where the largest map's pixels are in no cache.
 
 use crate::measure::{median, store, timed};
 use crate::pictures::palette;
@@ -25,6 +26,9 @@ const DRAWN: usize = 1 << 18;
 
 /// The longest run of one color. The mean is half of it, about a class map's.
 const RUN: usize = 180;
+
+/// The side of the patch, which is the smallest map.
+const PATCH: usize = 64;
 
 /// How many bytes the largest map's buffers and the rest take.
 const LARGEST: usize = 5 << 29;
@@ -76,20 +80,21 @@ impl Extent {
 pub fn measure_all(extent: &Extent) {
     let (width, height) = extent.stored;
     println!(
-        "| what | map | one retouch, ns | storing {width} by {height}, ms | storing/retouch |"
+        "| what | map | in one patch, ns | anywhere, ns | storing {width} by {height}, ms | storing/patch |"
     );
-    println!("|---|---|---|---|---|");
+    println!("|---|---|---|---|---|---|");
     let pixels = |&(width, height): &(u16, u16)| usize::from(width) * usize::from(height);
     let largest = 4 * extent.maps.iter().map(pixels).max().unwrap();
     let (mut picture, mut strip) = (vec![0; largest], vec![0; largest]);
     for line in LINES {
         let storing = line.storing(extent, &mut picture, &mut strip);
         for &(width, height) in &extent.maps {
-            let retouch = line.retouching(extent, (width, height), &mut picture, &mut strip);
+            let [patch, anywhere] =
+                line.retouching(extent, (width, height), &mut picture, &mut strip);
             println!(
-                "| {} | {width} by {height} | {retouch:.0} | {storing:.2} | {:.0} |",
+                "| {} | {width} by {height} | {patch:.0} | {anywhere:.0} | {storing:.2} | {:.0} |",
                 line.name,
-                1e6 * storing / retouch,
+                1e6 * storing / patch,
             );
         }
     }
@@ -111,29 +116,32 @@ impl Line {
         median(&(0..2 * extent.runs + 1).map(time).collect::<Vec<f64>>())
     }
 
-    /// Nanoseconds for one retouch. Each run has other points. The strip has to be the picture's in
-    /// the end, where there is room to store it again.
+    /// Nanoseconds for one retouch, in the patch and anywhere. Each run has other points. The strip has
+    /// to be the picture's in the end, where there is room to store it again.
     fn retouching(
         &self,
         extent: &Extent,
         side: (u16, u16),
         picture: &mut [u8],
         strip: &mut [u8],
-    ) -> f64 {
+    ) -> [f64; 2] {
         let mut map = Map::new(self, side, picture, strip);
         let mut random = Xorshift::new(0xA4C1_5E8B_D3F2_9067);
-        let mut time = |_| {
-            let list = map.any_list(&mut random, extent.retouches);
-            map.timed(&list)
-        };
-        let times: Vec<f64> = (0..=extent.runs).map(&mut time).collect();
+        let medians = [true, false].map(|patch| {
+            let mut time = |_| {
+                let list = map.any_list(&mut random, extent.retouches, patch);
+                map.timed(&list)
+            };
+            let times: Vec<f64> = (0..=extent.runs).map(&mut time).collect();
+            // The first run fills caches and is not counted.
+            median(&times[1..])
+        });
         if side <= extent.stored {
             let mut afresh = vec![0; map.strip.len()];
             assert_eq!(store(&map.given, map.picture, &mut afresh), 0);
             assert!(map.strip == afresh, "not the strip of the picture");
         }
-        // The first run fills caches and is not counted.
-        median(&times[1..])
+        medians
     }
 
     /// Then the colors are reds a step apart and the table has their differences, so that every map
@@ -211,13 +219,25 @@ impl<'a> Map<'a> {
         }
     }
 
-    fn any_list(&self, random: &mut Xorshift, len: usize) -> Vec<Retouch> {
-        let mut any = |_| Retouch {
-            x: random.below(self.given.width as usize) as u32,
-            y: random.below(self.given.height as usize) as u32,
+    /// The patch is in the middle.
+    fn any_list(&self, random: &mut Xorshift, len: usize, patch: bool) -> Vec<Retouch> {
+        let mut along = |side: u32| {
+            let side = side as usize;
+            if patch && side > PATCH {
+                (side / 2 + random.below(PATCH)) as u32
+            } else {
+                random.below(side) as u32
+            }
+        };
+        let points: Vec<(u32, u32)> = (0..len)
+            .map(|_| (along(self.given.width), along(self.given.height)))
+            .collect();
+        let retouch = |(x, y)| Retouch {
+            x,
+            y,
             color: random.choose(&self.palette),
         };
-        (0..len).map(&mut any).collect()
+        points.into_iter().map(retouch).collect()
     }
 
     /// Nanoseconds for one retouch of the list. All have to be accepted.

@@ -173,6 +173,19 @@ fn fill(random: &mut Xorshift, kind: u8, part: &mut [u8]) {
 }
 
 impl Given {
+    /// For messages: without the bytes of the data, which may be very many.
+    pub fn shown(&self) -> String {
+        let Self {
+            width,
+            height,
+            chain,
+            data,
+        } = self;
+        let records: Vec<&[u8]> = chain.chunks(16).collect();
+        let len = data.len();
+        format!("{width} by {height}, chain {records:?}, {len} bytes of data")
+    }
+
     pub fn read(&self) -> Result<Chain<'_>, u32> {
         Chain::read(self.width, self.height, &self.chain, &self.data)
     }

@@ -119,11 +119,11 @@ impl Compared {
         called: &Called,
         (answer, expected): (u32, &[u8]),
     ) {
-        assert_eq!(called.answer, answer, "{call} answers {}", shown(given));
+        assert_eq!(called.answer, answer, "{call} answers {}", given.shown());
         assert!(
             called.bytes == expected,
             "{call} answers {answer} to {}; of {} bytes the first wrong one is {:?}",
-            shown(given),
+            given.shown(),
             expected.len(),
             (0..expected.len()).find(|&i| called.bytes[i] != expected[i]),
         );
@@ -135,21 +135,8 @@ impl Compared {
 /// What is only read has to be unchanged, and so has everything around the slices.
 fn check_kept(given: &Given, read: &[(&Lent, &[u8])], written: &Lent) {
     for (lent, bytes) in read {
-        assert!(lent.slice() == *bytes, "input written, {}", shown(given));
-        assert!(lent.kept_around(), "written near input, {}", shown(given));
+        assert!(lent.slice() == *bytes, "input written, {}", given.shown());
+        assert!(lent.kept_around(), "written near input, {}", given.shown());
     }
-    assert!(written.kept_around(), "written outside, {}", shown(given));
-}
-
-/// Without the bytes of the data, which may be very many.
-fn shown(given: &Given) -> String {
-    let Given {
-        width,
-        height,
-        chain,
-        data,
-    } = given;
-    let records: Vec<&[u8]> = chain.chunks(16).collect();
-    let len = data.len();
-    format!("{width} by {height}, chain {records:?}, {len} bytes of data")
+    assert!(written.kept_around(), "written outside, {}", given.shown());
 }

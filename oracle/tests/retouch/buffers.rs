@@ -48,17 +48,17 @@ impl<'a> Buffers<'a> {
             "{name}: of {} bytes the first wrong one is {:?}; {after}, {}",
             expected.len(),
             (0..expected.len()).find(|&i| bytes[i] != expected[i]),
-            shown(self.given),
+            self.given.shown(),
         );
     }
 
     /// What is only read has to be unchanged, and so has everything around the slices.
     pub fn check_kept(&self) {
         let given = self.given;
-        assert!(self.chain.slice() == given.chain, "{}", shown(given));
-        assert!(self.data.slice() == given.data, "{}", shown(given));
+        assert!(self.chain.slice() == given.chain, "{}", given.shown());
+        assert!(self.data.slice() == given.data, "{}", given.shown());
         for lent in [&self.chain, &self.data, &self.picture, &self.strip] {
-            assert!(lent.kept_around(), "written outside, {}", shown(given));
+            assert!(lent.kept_around(), "written outside, {}", given.shown());
         }
     }
 
@@ -68,20 +68,7 @@ impl<'a> Buffers<'a> {
         let (chain, data) = (self.chain.slice(), self.data.slice());
         let mut strip = vec![165; strip_len];
         let answer = calls::store(width, height, chain, data, self.picture.slice(), &mut strip);
-        assert_eq!(answer, 0, "{}", shown(self.given));
+        assert_eq!(answer, 0, "{}", self.given.shown());
         strip
     }
-}
-
-/// Without the bytes of the data, which may be very many.
-pub fn shown(given: &Given) -> String {
-    let Given {
-        width,
-        height,
-        chain,
-        data,
-    } = given;
-    let records: Vec<&[u8]> = chain.chunks(16).collect();
-    let len = data.len();
-    format!("{width} by {height}, chain {records:?}, {len} bytes of data")
 }

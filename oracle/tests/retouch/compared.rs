@@ -1,6 +1,6 @@
 //! Lists of calls beside the desk and beside the model of the call.
 
-use crate::buffers::{shown, Buffers};
+use crate::buffers::Buffers;
 use oracle::calls::Retouch;
 use oracle::given::Given;
 use oracle::model::{self, Desk};
@@ -87,7 +87,7 @@ impl Compared {
         for &retouch in &scene.list {
             let answer = buffers.retouch(retouch);
             let expected = desk.answer(retouch);
-            assert_eq!(answer, expected, "{retouch:?}, {}", shown(given));
+            assert_eq!(answer, expected, "{retouch:?}, {}", given.shown());
             self.saw(answer);
         }
         let strip = desk.strip();
@@ -122,7 +122,7 @@ impl Compared {
                 &mut strip,
                 retouch,
             );
-            assert_eq!(answer, model, "{retouch:?}, {}", shown(given));
+            assert_eq!(answer, model, "{retouch:?}, {}", given.shown());
             buffers.check(&picture, &strip, &format!("{answer} to {retouch:?}"));
             self.saw(answer);
         }

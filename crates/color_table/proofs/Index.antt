@@ -129,8 +129,10 @@ module _ (size : ℕ) (e : Picture) where
       let m : indexOf size e w ≤ i = lowest-least e w size 0 i (omega arith) (sym q) (omega arith) in
       omega arith
 
-  pub found-entry : (w : Pixel) (k : ℕ) → k ≡ indexOf size e w → k < size → hasEntry size e w ≡ true
-  found-entry w k q l = lt-ltb (indexOf size e w) size (rw (← q) l)
+  -- v where it was found, or is u, which has one
+  pub known-entry : (u v : Pixel) (s t : Bool) → (s ≡ true → hasEntry size e v ≡ true) → t ≡ equal v u → hasEntry size e u ≡ true → (s || t) ≡ true → hasEntry size e v ≡ true
+  known-entry u v true t h q x r = h refl
+  known-entry u v false t h q x r = rw (equal-true v u (sym q ∙ r)) x
 
   pub entry-accepted : (i : ℕ) (w : Pixel) → w ≡ e i → i < size → hasEntry size e w ≡ true
   entry-accepted i w q l = lt-ltb (indexOf size e w) size (own-index i (indexOf size e w) w q refl l)
@@ -201,12 +203,12 @@ each-both u v f i s t h d r k l = go (decLt k 8)
     go (no m) = let e : i + 8 + (k - 8) ≡ i + k = omega arith in rw e at (d (and-right s t r) (k - 8) (omega arith))
 
 -- m pixels more that are u or v
-pub each-next : (u v : Pixel) (f : Picture) (a i m : ℕ) → EachOf u v f a (i - a) → EachOf u v f i m → a ≤ i → EachOf u v f a (i + m - a)
-each-next u v f a i m h d l k j = go (decLt k (i - a))
+pub each-next : (u v : Pixel) (f : Picture) (i m : ℕ) → EachOf u v f 0 i → EachOf u v f i m → EachOf u v f 0 (i + m)
+each-next u v f i m h d k l = go (decLt k i)
   where
-    go : Dec (k < i - a) → oneOf u v (f (a + k)) ≡ true
+    go : Dec (k < i) → oneOf u v (f (0 + k)) ≡ true
     go (yes s) = h k s
-    go (no s) = let e : i + (a + k - i) ≡ a + k = omega arith in rw e at (d (a + k - i) (omega arith))
+    go (no s) = let e : i + (k - i) ≡ 0 + k = omega arith in rw e at (d (k - i) (omega arith))
 
 -- a group more that is v
 pub all-more : (v : Pixel) (f : Picture) (a g : ℕ) → ((q : ℕ) → a ≤ q → q < 16 * g → f q ≡ v) → EachOf v v f (16 * g) 16 → (q : ℕ) → a ≤ q → q < 16 * (g + 1) → f q ≡ v
@@ -250,8 +252,8 @@ module _ (size : ℕ) (e f : Picture) where
       let p = each-passes u v f i (suc n) (hasEntry size e) h a b n (omega arith) in
       ap (λ (m : ℕ). accepted size e m f) s ∙ and-both (hasEntry size e (f (i + n))) (accepted size e (i + n) f) p r
 
-  pub accepted-reach : (u v : Pixel) (a i : ℕ) → EachOf u v f a (i - a) → a ≤ i → accepted size e a f ≡ true → hasEntry size e u ≡ true → hasEntry size e v ≡ true → accepted size e i f ≡ true
-  accepted-reach u v a i h l t x y = let s : a + (i - a) ≡ i = omega arith in rw s at (accepted-each u v a (i - a) h t x y)
+  pub accepted-front : (u v : Pixel) (n : ℕ) → EachOf u v f 0 n → hasEntry size e u ≡ true → hasEntry size e v ≡ true → accepted size e n f ≡ true
+  accepted-front u v n h x y = rw (zero-add n) at (accepted-each u v 0 n h refl x y)
 
   -- what is refused early stays so
   pub accepted-fewer : (m n : ℕ) → accepted size e m f ≡ false → m ≤ n → false ≡ accepted size e n f

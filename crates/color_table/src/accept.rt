@@ -1,11 +1,12 @@
-// Whether pixels have entries. Pictures are runs of few colors, so that groups of sixteen pixels are compared with the last two colors, and
-// looked up only where one differs.
+// Whether pixels have entries. Pictures are runs of few colors, so that groups of sixteen pixels are compared with the pixel before them and their
+// last one, and each is looked up only where one differs from both.
 use crate::find::find;
+use crate::find::first_holds;
 use crate::find::same;
 use pixel::word::word_at;
 ghost use mathlib.Core.Path.{_≡_};
 ghost use mathlib.Core.Bool.{true};
-ghost use Prim.Native.Nat.{_+_, _-_, _*_, _%_, _≤_};
+ghost use Prim.Native.Nat.{_+_, _*_, _%_, _≤_};
 ghost use lib.ListN.{length};
 ghost use Rattle.format.specs.Picture.{pixels};
 ghost use Rattle.format.specs.ColorTable.{hasEntry, accepted};
@@ -28,12 +29,12 @@ pub fn eight_of(row: &[u8], i: usize, a: u32, b: u32) -> bool
     all
 }
 
-// The first group from `from` on with a pixel that is neither a nor b, or `count`.
-fn pass(row: &[u8], from: usize, count: usize, a: u32, b: u32) -> usize
-    requires { ⌜ (from % 16 ≡ 0) × (count % 16 ≡ 0) × (from ≤ count) × (4 * count ≤ length (now row)) ⌝ }
-    ensures { λ r. ⌜ (r % 16 ≡ 0) × (from ≤ r) × (r ≤ count) × EachOf (unword a) (unword b) (pixels (now (row .entry))) from (r - from) ⌝ }
+// The first group with a pixel that is neither a nor b, or `count`.
+fn pass(row: &[u8], count: usize, a: u32, b: u32) -> usize
+    requires { ⌜ (count % 16 ≡ 0) × (4 * count ≤ length (now row)) ⌝ }
+    ensures { λ r. ⌜ (r % 16 ≡ 0) × (r ≤ count) × EachOf (unword a) (unword b) (pixels (now (row .entry))) 0 r ⌝ }
 {
-    let mut i = from;
+    let mut i = 0;
     while i < count {
         if !(eight_of(row, i, a, b) & eight_of(row, i + 8, a, b)) {
             return i;
@@ -67,7 +68,8 @@ fn accept_each(
     true
 }
 
-// The same of the group from i on, where a has an entry. Most groups are a and the color that follows it.
+// The same of the group from i on, where a has an entry. Most groups are the pixel before them, a, or that and one color more: one branch for both, so that
+// a change of color is not mispredicted.
 fn accept_group(row: &[u8], i: usize, a: u32, entries: &[u8], size: usize, hints: &[u8]) -> bool
     requires { ⌜ Table size (now entries) (now hints) ⌝ }
     requires { ⌜ 4 * (i + 16) ≤ length (now row) ⌝ }
@@ -75,34 +77,27 @@ fn accept_group(row: &[u8], i: usize, a: u32, entries: &[u8], size: usize, hints
     ensures { λ r. ⌜ r ≡ accepted size (pixels (now (entries .entry))) (i + 16) (pixels (now (row .entry))) ⌝ }
 {
     let c = word_at(row, i + 15);
-    if find(entries, size, hints, c) < size {
-        if eight_of(row, i, a, c) & eight_of(row, i + 8, a, c) {
-            return true;
-        }
+    let known = first_holds(entries, size, hints, c) | same(c, a);
+    if known & (eight_of(row, i, a, c) & eight_of(row, i + 8, a, c)) {
+        return true;
     }
     accept_each(row, i, i + 16, entries, size, hints)
 }
 
-// The same from the first pixel on, by groups. a and b are the last two colors; at first they are entries, so that two colors are never looked up.
+// The same from the first pixel on, by groups. At first those of two entries are passed, so that pictures of tables of two are never looked up.
 fn accept_groups(row: &[u8], count: usize, entries: &[u8], size: usize, hints: &[u8]) -> bool
     requires { ⌜ Table size (now entries) (now hints) ⌝ }
     requires { ⌜ (count % 16 ≡ 0) × (4 * count ≤ length (now row)) ⌝ }
     ensures { λ r. ⌜ r ≡ accepted size (pixels (now (entries .entry))) count (pixels (now (row .entry))) ⌝ }
 {
     let mut a = word_at(entries, 0);
-    let mut b = word_at(entries, size - 1);
-    let mut i = 0;
+    let mut i = pass(row, count, a, word_at(entries, size - 1));
     while i < count {
-        let g = pass(row, i, count, a, b);
-        if count <= g {
-            return true;
-        }
-        if !accept_group(row, g, a, entries, size, hints) {
+        if !accept_group(row, i, a, entries, size, hints) {
             return false;
         }
-        b = a;
-        a = word_at(row, g + 15);
-        i = g + 16;
+        a = word_at(row, i + 15);
+        i += 16;
     }
     true
 }

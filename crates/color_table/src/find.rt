@@ -1,11 +1,12 @@
 // Looking up the index of a pixel.
 use pixel::word::word_at;
 ghost use mathlib.Core.Path.{_≡_};
+ghost use mathlib.Core.Bool.{true};
 ghost use Prim.Native.Nat.{_*_, _<_, _≤_};
 ghost use lib.ListN.{length};
 ghost use Rattle.format.specs.Pixel.{equal};
 ghost use Rattle.format.specs.Picture.{pixels};
-ghost use Rattle.format.specs.ColorTable.{indexOf};
+ghost use Rattle.format.specs.ColorTable.{indexOf, hasEntry};
 ghost use Rattle.pixel.specs.Word.{unword};
 ghost use Rattle.color_table.specs.Pack.{Hints, Table};
 
@@ -76,6 +77,14 @@ pub fn find(entries: &[u8], size: usize, hints: &[u8], w: u32) -> usize
         return j;
     }
     scan(entries, size, w)
+}
+
+// Whether w's first slot holds its entry: with no branch.
+pub fn first_holds(entries: &[u8], size: usize, hints: &[u8], w: u32) -> bool
+    requires { ⌜ Table size (now entries) (now hints) ⌝ }
+    ensures { λ r. ⌜ (r ≡ true → hasEntry size (pixels (now (entries .entry))) (unword w) ≡ true) ⌝ }
+{
+    same(word_at(entries, hints[first_slot(w)] as usize), w)
 }
 
 // Where entries are looked up: made once a picture.

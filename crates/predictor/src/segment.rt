@@ -128,16 +128,34 @@ fn gain_1(rows: &[u8], w: usize, i: usize, left: Pixel) -> Pixel
     add_pixels(pixel_at(rows, i), left)
 }
 
+// Pixels i and i + 1 gain the pixel to the left of each; the second is returned. Both are read before one is written, so that eight bytes are moved at once.
+fn gain_pair(rows: &mut [u8], w: usize, i: usize, left: Pixel) -> Pixel
+    requires { ⌜ 4 * i + 8 ≤ length (now rows) ⌝ }
+    requires { ⌜ left ≡ pixels (now rows) (i - 1) ⌝ }
+    ensures { λ r. ⌜ (now (rows .exit) ≡ run pixelCells (gains (around 1 w)) i 2 (now (rows .entry))) × (r ≡ pixels (now (rows .exit)) (i + 1)) ⌝ }
+{
+    let a = pixel_at(rows, i);
+    let b = pixel_at(rows, i + 1);
+    let first = add_pixels(a, left);
+    let next = add_pixels(b, first);
+    put_pixel(rows, i, first);
+    put_pixel(rows, i + 1, next);
+    next
+}
+
 pub fn apply_predictor_transform_1(rows: &mut [u8], w: usize, from: usize, to: usize)
     requires { ⌜ (1 ≤ from) × (from ≤ to) × (4 * to ≤ length (now rows)) ⌝ }
     ensures { λ _. ⌜ now (rows .exit) ≡ run pixelCells (gains (around 1 w)) from (to - from) (now (rows .entry)) ⌝ }
 {
     let mut left = pixel_at(rows, from - 1);
     let mut i = from;
-    while i < to {
-        left = gain_1(rows, w, i, left);
-        put_pixel(rows, i, left);
-        i += 1;
+    while i + 2 <= to {
+        left = gain_pair(rows, w, i, left);
+        i += 2;
+    }
+    if i < to {
+        let v = gain_1(rows, w, i, left);
+        put_pixel(rows, i, v);
     }
 }
 

@@ -1,4 +1,4 @@
--- `pass` meets its contract: before each turn the pixels from `from` up to i are a or b.
+-- `pass` meets its contract: before each turn the pixels before i are a or b.
 use Prim.Native.Nat.{_≤_, _-_, _%_}
 use mathlib.Core.Path.{_≡_}
 use native.Mathlib.Omega.{arith}
@@ -11,10 +11,10 @@ use Rattle.color_table.proofs.accept.pass.Statement.{statement}
 use Rattle.color_table.proofs.accept.pass.Tie as tie
 
 abbrev Inv-loop : tie.InvT-loop
-Inv-loop row from count a b i₀ i = (i % 16 ≡ 0) × (from ≤ i) × (i ≤ count) × EachOf (unword a) (unword b) (pixels row) from (i - from)
+Inv-loop row count a b i₀ i = (i % 16 ≡ 0) × (i ≤ count) × EachOf (unword a) (unword b) (pixels row) 0 i
 
 abbrev μ-loop : tie.MeasureT-loop
-μ-loop row from count a b i₀ i = count - i
+μ-loop row count a b i₀ i = count - i
 
 pub pass-spec : {M : Type 1} → statement M
 pass-spec =
@@ -22,7 +22,7 @@ pass-spec =
     (tie.spec
     Inv-loop
     μ-loop
-    (λ c. (omega arith, omega arith, omega arith, (λ k l. absurd (omega arith))))
+    (λ c. (omega arith, omega arith, (λ k l. absurd (omega arith))))
     (λ c κs. omega arith)
     (λ c. omega arith)
     (λ c κs. omega arith)
@@ -33,5 +33,5 @@ pass-spec =
     let s = c .before .before .before .before .before .before in
     let l = c .before .before .before .before .loop in
     let b = each-both (unword (s .args .a)) (unword (s .args .b)) (pixels (s .args .row .now)) (l .i) _ _ (c .before .before .eight-of .ensures) (c .before .eight-of2 .ensures) (not-false _ (c .if1 .left)) in
-    (omega arith, omega arith, omega arith, each-next _ _ (pixels (s .args .row .now)) (s .args .from) (l .i) 16 (l .inv .3) b (l .inv .1)))
+    (omega arith, omega arith, each-next _ _ (pixels (s .args .row .now)) (l .i) 16 (l .inv .2) b))
     (λ c. c .before .loop .inv))

@@ -8,7 +8,7 @@ use Rattle.format.specs.Picture.{pixels}
 use Rattle.pixel.specs.Cells.{pixelCells, run}
 use Rattle.pixel.proofs.Cells.{run-none, run-done}
 use Rattle.predictor.specs.Row.{around, gains}
-use Rattle.predictor.proofs.Turn.{left-next, run-turn}
+use Rattle.predictor.proofs.Turn.{pair-left, pair-turn, run-turn}
 use Rattle.predictor.proofs.segment.apply_predictor_transform_1.Statement.{statement}
 use Rattle.predictor.proofs.segment.apply_predictor_transform_1.Tie as tie
 
@@ -28,18 +28,19 @@ apply-predictor-transform-1-spec =
     (λ c. omega arith)
     (λ c κs. omega arith)
     (λ c. (omega arith, omega arith, refl, run-none _ _ _ _, c .pixel-at .ensures))
+    (λ c. omega arith)
     (λ c κs. (omega arith, c .before .before .loop .inv .4))
-    (λ c κs. omega arith)
     (λ c. omega arith)
     (λ c. omega arith)
     (λ c.
-    let l = c .before .before .before .before .before .before .before .loop in
-    let p = c .before .before .put-pixel in (
-      omega arith,
-      omega arith,
-      p .kept .0 ∙ l .inv .2,
-      run-turn _ _ _ _ _ _ _ (l .inv .3) (c .before .before .before .before .gain-1 .ensures) (p .ensures) (l .inv .0),
-      left-next _ _ _ _ (p .ensures) (omega arith),
-    ))
+    let l = c .before .before .before .before .before .loop in
+    let p = c .before .before .gain-pair in
+    (omega arith, omega arith, p .kept .0 ∙ l .inv .2, pair-turn _ _ _ _ _ _ (l .inv .3) (p .ensures .0) (l .inv .0), pair-left _ _ _ (p .ensures .1)))
+    (λ c κs. (omega arith, c .before .before .before .loop .inv .4))
+    (λ c κs. omega arith)
     (λ c. search needs)
-    (λ c. run-done _ _ _ _ _ _ _ (omega arith) (omega arith) (c .before .loop .inv .3)))
+    (λ c.
+    let l = c .before .before .before .before .before .before .before .before .loop in
+    run-done _ _ _ _ _ _ _ (omega arith) (omega arith) (run-turn _ _ _ _ _ _ _ (l .inv .3) (c .before .before .before .before .gain-1 .ensures) (c .before .before .put-pixel .ensures) (l .inv .0)))
+    (λ c. search needs)
+    (λ c. run-done _ _ _ _ _ _ _ (omega arith) (omega arith) (c .before .before .loop .inv .3)))

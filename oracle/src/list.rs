@@ -186,17 +186,6 @@ impl ChainCase {
 
 /// The whole list, the same on every run.
 pub fn answers() -> Vec<u8> {
-    let mut list = answers_without_retouch();
-    for cases in [desk_cases, refused_cases] {
-        for case in cases(&mut Xorshift::new(SEED)) {
-            case.write(&mut list);
-        }
-    }
-    list
-}
-
-/// The list's front, for a replayer that cannot retouch.
-pub fn answers_without_retouch() -> Vec<u8> {
     let mut list = Vec::new();
     for cases in [
         predictor_cases,
@@ -210,6 +199,11 @@ pub fn answers_without_retouch() -> Vec<u8> {
         }
     }
     for cases in [order_cases, band_cases, refusal_cases] {
+        for case in cases(&mut Xorshift::new(SEED)) {
+            case.write(&mut list);
+        }
+    }
+    for cases in [desk_cases, refused_cases] {
         for case in cases(&mut Xorshift::new(SEED)) {
             case.write(&mut list);
         }

@@ -8,20 +8,11 @@ fn list() -> Vec<u8> {
     fs::read(file).unwrap_or_else(|error| panic!("crates/replay/stdin: {error}"))
 }
 
-/// Whether the list is expected to end before the retouches, for a replayer that cannot retouch.
-fn without_retouch() -> bool {
-    std::env::var_os("LETCHWATER_LIST_WITHOUT_RETOUCH").is_some()
-}
-
 #[cfg(rust_source)]
 #[test]
 fn list_is_what_the_rust_answers() {
     let list = list();
-    let answers = if without_retouch() {
-        oracle::list::answers_without_retouch()
-    } else {
-        oracle::list::answers()
-    };
+    let answers = oracle::list::answers();
     let alike = list.iter().zip(&answers).take_while(|(a, b)| a == b);
     let alike = alike.count();
     assert!(
@@ -60,13 +51,8 @@ fn list_can_be_replayed() {
         }
     }
     assert!(answers.into_iter().eq([0, 1, 2, 3, 4, 5, 6, 7, 8, 21]));
-    let cases = if without_retouch() {
-        &cases[..7]
-    } else {
-        let counts = (0..=5).map(|count| 256 + 32 * count);
-        assert!(retouched.into_iter().eq((1..10).chain([22]).chain(counts)));
-        &cases
-    };
+    let counts = (0..=5).map(|count| 256 + 32 * count);
+    assert!(retouched.into_iter().eq((1..10).chain([22]).chain(counts)));
     assert!(cases.iter().all(|&count| count > 0), "{cases:?}");
 }
 

@@ -16,7 +16,10 @@ const RECORD_DAMAGES: [(u32, &[Edit]); 22] = [
     (3, &[|case| case.given.chain[16] = 4]),
     (4, &[|case| case.given.chain[32] = SUBTRACT_GREEN]),
     (5, &[|case| case.given.chain[17] = 1]),
-    (5, &[|case| case.given.chain[35] = 1]),
+    (
+        5,
+        &[|case| case.given.chain[34..36].copy_from_slice(&[1, 1])],
+    ),
     (5, &[|case| case.given.chain[4] = 1]),
     (5, &[|case| case.given.chain[63] = 128]),
     (6, &[|case| case.given.chain[24] += 4]),
@@ -115,20 +118,18 @@ pub(crate) fn band_cases(random: &mut Xorshift) -> Vec<ChainCase> {
     cases
 }
 
-/// Rebuilding and storing in turn, since both read a chain alike.
 pub(crate) fn refusal_cases(random: &mut Xorshift) -> Vec<ChainCase> {
     let mut cases = Vec::new();
-    for (at, (number, edits)) in RECORD_DAMAGES.into_iter().enumerate() {
-        let given = damaged_plan(random).given(random);
-        let mut case = match at % 2 {
-            0 => rebuild_case(random, given, 2),
-            _ => store_case(random, given, 2),
-        };
-        for edit in edits.iter().rev() {
-            edit(&mut case);
+    for (number, edits) in RECORD_DAMAGES {
+        for made in [rebuild_case, store_case] {
+            let given = damaged_plan(random).given(random);
+            let mut case = made(random, given, 2);
+            for edit in edits.iter().rev() {
+                edit(&mut case);
+            }
+            assert_eq!(case.answered().0, number);
+            cases.push(case);
         }
-        assert_eq!(case.answered().0, number);
-        cases.push(case);
     }
     cases.extend(buffer_cases(random));
     cases

@@ -7,7 +7,7 @@ use native.Mathlib.Omega.{arith}
 use borrow.Author.Tests.{eqb-true}
 use lib.Dec.{eqb}
 use Rattle.format.specs.Choice.{every}
-use Rattle.format.specs.Byte.{delta, sub}
+use Rattle.format.specs.Byte.{delta}
 use Rattle.format.proofs.Choice.{every-at}
 use Rattle.color.specs.Factor.{Factor}
 
@@ -31,7 +31,3 @@ delta-by t m c f b =
 
 pub product : (m u : ℕ) → m < 8192 → u < 256 → m * u ≤ 2088705
 product m u p q = let h : m ≤ 8191 = omega arith in omega (arith, mul-le-mul-right u h)
-
--- what is subtracted wraps as `sub` does
-pub wrapped : (a b r : ℕ) → (r + b) % 256 ≡ a → r < 256 → b < 256 → r ≡ sub a b
-wrapped a b r e p q = omega arith

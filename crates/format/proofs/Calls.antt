@@ -1,33 +1,34 @@
 -- Laws of the calls on chains: which numbers they answer, when they accept, and what the buffer holds then.
 use mathlib.Core.Bool.{Bool, true, false, not, _&&_}
-use mathlib.Core.List.{List}
+use mathlib.Core.List.{List, []}
 use mathlib.Core.Logic.{_⊎_, inl, inr}
 use mathlib.Core.Path.{_≡_, refl}
-use Prim.Native.Nat.{ℕ, zero, suc, _*_, _<_, _≤_}
+use Prim.Native.Nat.{ℕ, zero, suc, _+_, _*_, _<_, _≤_}
+use native.Mathlib.Decide.{ℕ-discrete}
 use native.Mathlib.Omega.{arith}
 use borrow.Author.Tests.{leb-true, le-leb, lt-leb, ne-eqb}
-use lib.Dec.{eqb, lit≤}
+use lib.Dec.{lit≤}
 use lib.ListN.{length}
-use Rattle.format.specs.Choice.{if_then_else_}
 use Rattle.format.specs.declared.Checked.{Checked}
 use Rattle.format.specs.declared.Checked.the-variants.{Taken, UnknownKind, KindAgain, NotTabled, WrongLength, BeyondData}
 use Rattle.format.specs.declared.Pixel.{Pixel}
-use Rattle.format.specs.Picture.{pixels, written}
+use Rattle.format.specs.Picture.{Picture, pixels, written}
 use Rattle.format.specs.Chain.{stepAt, count}
 use Rattle.format.specs.Refusals.{usedBefore, checked, number, _unless_, _before_, recordsRefusal, inRange, wholeRecords, chainRefusal}
 use Rattle.format.specs.Stages.{stored, rebuilt, accepts}
-use Rattle.format.specs.Retouch.{unmade, pointAnswer}
+use Rattle.format.specs.Retouch.{answer, changes, differ, marks, maskOf, newStrip, ones, unmade, pointAnswer}
 use Rattle.format.specs.Calls.{holds, records, rebuildAnswer, rebuildImage, storeAnswer, storeStrip, inside, painted, touched, retouchAnswer, retouchPicture, retouchStrip}
 use Rattle.format.proofs.Choice.{and-left, and-right, and-both}
+use Rattle.format.proofs.Marks.{marks-length, mask-small, ones-most}
 use Rattle.format.proofs.Valid.{before-zero, unless-zero}
 
--- what holds of two refusals holds of the first of them
-before-is : (P : ℕ → Type 0) (a b : ℕ) → P a → P b → P (a before b)
-before-is P a b p q = go (eqb a 0)
+-- what holds of two refusals holds of the first of them; the second counts where the first is 0
+before-is : (P : ℕ → Type 0) (a b : ℕ) → P a → (a ≡ 0 → P b) → P (a before b)
+before-is P a b p q = go (ℕ-discrete a 0)
   where
-    go : (t : Bool) → P (if t then b else a)
-    go true = q
-    go false = p
+    go : Dec (a ≡ 0) → P (a before b)
+    go (yes e) = rw e (q e)
+    go (no n) = rw (ne-eqb a 0 n) p
 
 unless-is : (P : ℕ → Type 0) (n : ℕ) (b : Bool) → P 0 → P n → P (n unless b)
 unless-is P n true p q = p
@@ -45,13 +46,13 @@ records-most : (cs : List ℕ) (w h n k : ℕ) → recordsRefusal cs w h n k ≤
 unfolding recordsRefusal
 records-most cs w h n zero = lit≤ tt
 records-most cs w h n (suc k) =
-    before-is (λ r. r ≤ 7) (recordsRefusal cs w h n k) _ (records-most cs w h n k) (number-most (checked (usedBefore cs k) h n (stepAt cs w k)))
+    before-is (λ r. r ≤ 7) (recordsRefusal cs w h n k) _ (records-most cs w h n k) (λ e. number-most (checked (usedBefore cs k) h n (stepAt cs w k)))
 
 pub chainRefusal-most : (w h : ℕ) (cs : List ℕ) (n : ℕ) → chainRefusal w h cs n ≤ 7
 unfolding chainRefusal
 chainRefusal-most w h cs n =
     before-is (λ r. r ≤ 7) (1 unless (inRange w && inRange h)) _ (unless-is (λ r. r ≤ 7) 1 (inRange w && inRange h) (lit≤ tt) (lit≤ tt))
-    (before-is (λ r. r ≤ 7) (2 unless wholeRecords cs) _ (unless-is (λ r. r ≤ 7) 2 (wholeRecords cs) (lit≤ tt) (lit≤ tt)) (records-most cs w h n (count cs)))
+    (λ d. before-is (λ r. r ≤ 7) (2 unless wholeRecords cs) _ (unless-is (λ r. r ≤ 7) 2 (wholeRecords cs) (lit≤ tt) (lit≤ tt)) (λ e. records-most cs w h n (count cs)))
 
 module _ (w h : ℕ) (cs ds : List ℕ) where
   abbrev refusal : ℕ
@@ -67,7 +68,7 @@ module _ (w h : ℕ) (cs ds : List ℕ) where
     unfolding rebuildAnswer
     rebuildAnswer-most =
         let m = chainRefusal-most w h cs (length ds) in
-        before-is (λ r. r ≤ 8) refusal (8 unless room) (omega arith) (unless-is (λ r. r ≤ 8) 8 room (lit≤ tt) (lit≤ tt))
+        before-is (λ r. r ≤ 8) refusal (8 unless room) (omega arith) (λ e. unless-is (λ r. r ≤ 8) 8 room (lit≤ tt) (lit≤ tt))
 
     pub rebuild-accepts : refusal ≡ 0 → 4 * (h * w) ≤ length image → rebuildAnswer w h cs ds image ≡ 0
     unfolding rebuildAnswer
@@ -101,7 +102,7 @@ module _ (w h : ℕ) (cs ds : List ℕ) where
     storeAnswer-listed =
         let m = chainRefusal-most w h cs (length ds) in
         before-is Listed refusal _ (inl (omega arith))
-        (before-is Listed (8 unless rooms) (21 unless accepting) (unless-is Listed 8 rooms (inl (lit≤ tt)) (inl (lit≤ tt))) (unless-is Listed 21 accepting (inl (lit≤ tt)) (inr refl)))
+        (λ e. before-is Listed (8 unless rooms) (21 unless accepting) (unless-is Listed 8 rooms (inl (lit≤ tt)) (inl (lit≤ tt))) (λ d. unless-is Listed 21 accepting (inl (lit≤ tt)) (inr refl)))
       where
         Listed : ℕ → Type 0
         Listed r = (r ≤ 8) ⊎ (r ≡ 21)
@@ -131,20 +132,38 @@ module _ (w h : ℕ) (cs ds : List ℕ) where
   -- retouching
 
   module _ (picture strip : List ℕ) (x y : ℕ) (v : Pixel) where
-    pub retouchAnswer-listed : (retouchAnswer w h cs ds picture strip x y v ≤ 9) ⊎ ((retouchAnswer w h cs ds picture strip x y v ≡ 22) ⊎ (256 ≤ retouchAnswer w h cs ds picture strip x y v))
-    unfolding retouchAnswer pointAnswer
-    retouchAnswer-listed =
+    -- a point has at most five records, where the chain is valid
+    pub retouchAnswer-listed : (refusal ≡ 0 → length (touched w cs x y) ≤ 5)
+        → (retouchAnswer w h cs ds picture strip x y v ≤ 9)
+        ⊎ ((retouchAnswer w h cs ds picture strip x y v ≡ 22) ⊎ ((256 ≤ retouchAnswer w h cs ds picture strip x y v) × (retouchAnswer w h cs ds picture strip x y v ≤ 447)))
+    unfolding retouchAnswer pointAnswer changes
+    retouchAnswer-listed few =
         let m = chainRefusal-most w h cs (length ds) in
         before-is Listed refusal _ (inl (omega arith))
-        (before-is Listed (8 unless rooms picture strip) _ (unless-is Listed 8 (rooms picture strip) (inl (lit≤ tt)) (inl (lit≤ tt)))
-        (before-is Listed (9 unless inside w h x y) _ (unless-is Listed 9 (inside w h x y) (inl (lit≤ tt)) (inl (lit≤ tt)))
-        (before-is Listed (22 unless not refused) _ (unless-is Listed 22 (not refused) (inl (lit≤ tt)) (inr (inl refl))) (inr (inr (omega arith))))))
+        (λ e. before-is Listed (8 unless rooms picture strip) _ (unless-is Listed 8 (rooms picture strip) (inl (lit≤ tt)) (inl (lit≤ tt)))
+        (λ d. before-is Listed (9 unless inside w h x y) _ (unless-is Listed 9 (inside w h x y) (inl (lit≤ tt)) (inl (lit≤ tt)))
+        (λ b. before-is Listed (22 unless not refused) _ (unless-is Listed 22 (not refused) (inl (lit≤ tt)) (inr (inl refl))) (λ a. inr (inr (counted (few e)))))))
       where
         Listed : ℕ → Type 0
-        Listed r = (r ≤ 9) ⊎ ((r ≡ 22) ⊎ (256 ≤ r))
+        Listed r = (r ≤ 9) ⊎ ((r ≡ 22) ⊎ ((256 ≤ r) × (r ≤ 447)))
+
+        f : Picture
+        f = painted w (pixels picture) x y v
 
         refused : Bool
-        refused = unmade (stepAt cs w) ds (count cs) (records w h cs) (painted w (pixels picture) x y v) (touched w cs x y)
+        refused = unmade (stepAt cs w) ds (count cs) (records w h cs) f (touched w cs x y)
+
+        changed : ℕ → Bool
+        changed = differ (records w h cs) (pixels strip) (newStrip (stepAt cs w) ds (count cs) f (y * w + x) (pixels strip))
+
+        marked : List Bool
+        marked = marks changed [] (touched w cs x y)
+
+        counted : length (touched w cs x y) ≤ 5 → (256 ≤ answer (ones marked) (maskOf marked)) × (answer (ones marked) (maskOf marked) ≤ 447)
+        counted five =
+            let most = ones-most [] changed (touched w cs x y) in
+            let small = mask-small marked (rw (marks-length [] changed (touched w cs x y)) five) in
+            (omega arith, omega arith)
 
     pub retouch-refused : retouchAnswer w h cs ds picture strip x y v < 256 → (retouchPicture w h cs ds picture strip x y v ≡ picture) × (retouchStrip w h cs ds picture strip x y v ≡ strip)
     unfolding retouchPicture retouchStrip

@@ -1,15 +1,17 @@
--- The demands of document 00, on the bytes of the calls that rebuild, store and retouch by a chain. The statements come first, the proofs below.
-use mathlib.Core.Bool.{Bool, true, _&&_}
+-- The demands of document 00, on the bytes of the calls. The statements come first, the proofs below.
+use mathlib.Core.Bool.{Bool, true, false, _&&_}
 use mathlib.Core.List.{List, []}
-use mathlib.Core.Logic.{_⊎_}
+use mathlib.Core.Logic.{_⊎_, inl, inr}
 use mathlib.Core.Path.{_≡_, refl, sym, ap, _∙_}
 use Prim.Native.Nat.{ℕ, _+_, _*_, _<_, _≤_}
 use native.Mathlib.Nat.{le-trans}
 use lib.Dec.{leb}
 use lib.ListN.{length}
+use Rattle.format.specs.Choice.{if_then_else_}
 use Rattle.format.specs.Indices.{howMany}
 use Rattle.format.specs.declared.Pixel.{Pixel}
-use Rattle.format.specs.Picture.{Picture, byteAt, pixels, written}
+use Rattle.format.specs.Picture.{Picture, byteAt, pixels, written, writtenBytes}
+use Rattle.format.specs.ColorMap.{adjusted, unadjusted, refused, colorMapAnswer, adjustColorMap, unadjustColorMap}
 use Rattle.format.specs.Chain.{recordAt, stepAt, count}
 use Rattle.format.specs.Refusals.{chainRefusal}
 use Rattle.format.specs.Stages.{stored, rebuilt, accepts}
@@ -60,7 +62,7 @@ module _ (w h : ℕ) (cs ds : List ℕ) where
       → storeAnswer w h cs ds picture strip ≡ 0 → 4 * (h * w) ≤ length image → SameFront (records w h cs) image (storeStrip w h cs ds picture strip)
       → (rebuildAnswer w h cs ds image ≡ 0) × (rebuildImage w h cs ds image ≡ written (h * w) (pixels picture) image)
 
-  -- demand 2: without a colour table storing a rebuilt strip gives that strip, every byte beyond kept
+  -- demand 2: without a color table storing a rebuilt strip gives that strip, every byte beyond kept
   abbrev pub StoresRebuilt : Type 0
   StoresRebuilt = (image picture strip : List ℕ) → AreBytes image → NoTable cs
       → rebuildAnswer w h cs ds image ≡ 0 → 4 * (h * w) ≤ length picture → 4 * (h * w) ≤ length strip → SameFront (h * w) picture (rebuildImage w h cs ds image)
@@ -69,7 +71,7 @@ module _ (w h : ℕ) (cs ds : List ℕ) where
   -- demand 1, of retouching
   abbrev pub RetouchingAnswers : Type 0
   RetouchingAnswers = (picture strip : List ℕ) (x y : ℕ) (v : Pixel)
-      → (retouchAnswer w h cs ds picture strip x y v ≤ 9) ⊎ ((retouchAnswer w h cs ds picture strip x y v ≡ 22) ⊎ (256 ≤ retouchAnswer w h cs ds picture strip x y v))
+      → (retouchAnswer w h cs ds picture strip x y v ≤ 9) ⊎ ((retouchAnswer w h cs ds picture strip x y v ≡ 22) ⊎ ((256 ≤ retouchAnswer w h cs ds picture strip x y v) × (retouchAnswer w h cs ds picture strip x y v ≤ 447)))
 
   abbrev pub RetouchingRefused : Type 0
   RetouchingRefused = (picture strip : List ℕ) (x y : ℕ) (v : Pixel) → retouchAnswer w h cs ds picture strip x y v < 256
@@ -111,7 +113,31 @@ module _ (w h : ℕ) (cs ds : List ℕ) where
   abbrev pub RetouchesLikeDesk : Type 0
   RetouchesLikeDesk = (b : Buffers) → StoredPair b → (calls : List Retouch) → Retouched b calls
 
+-- demand 1, of the color map's calls
+abbrev pub ColorMapAnswers : Type 0
+ColorMapAnswers = (map : List ℕ) → (colorMapAnswer map ≡ 0) ⊎ (colorMapAnswer map ≡ 10)
+
+abbrev pub ColorMapRefused : Type 0
+ColorMapRefused = (map : List ℕ) → (colorMapAnswer map ≡ 0 → ⊥) → (adjustColorMap map ≡ map) × (unadjustColorMap map ≡ map)
+
 -- proofs
+
+pub color-map-answers : ColorMapAnswers
+unfolding colorMapAnswer
+color-map-answers map = go (refused (length map))
+  where
+    go : (b : Bool) → _≡_ {A = ℕ} (if b then 10 else 0) 0 ⊎ _≡_ {A = ℕ} (if b then 10 else 0) 10
+    go true = inr refl
+    go false = inl refl
+
+pub color-map-refused : ColorMapRefused
+unfolding colorMapAnswer adjustColorMap unadjustColorMap
+color-map-refused map n = go (refused (length map)) n
+  where
+    go : (b : Bool) → (_≡_ {A = ℕ} (if b then 10 else 0) 0 → ⊥)
+        → ((if b then map else writtenBytes (length map) (adjusted (byteAt map)) map) ≡ map) × ((if b then map else writtenBytes (length map) (unadjusted (byteAt map)) map) ≡ map)
+    go true d = (refl, refl)
+    go false d = absurd (d refl)
 
 -- a front that was written is what was written there
 front-written : (n : ℕ) (f : Picture) (xs ys zs : List ℕ) → SameFront n xs ys → ys ≡ written n f zs → Alike n (pixels xs) f
@@ -181,7 +207,7 @@ module _ (w h : ℕ) (cs ds : List ℕ) where
           ∙ chain-rebuilt w h cs ds valid untabled (pixels image) (λ p m. bytes-pixels image bytes p) q l
 
   pub retouching-answers : RetouchingAnswers w h cs ds
-  retouching-answers = retouchAnswer-listed w h cs ds
+  retouching-answers picture strip x y v = retouchAnswer-listed w h cs ds picture strip x y v (λ e. spots-few w h cs (length ds) e (y * w + x))
 
   pub retouching-refused : RetouchingRefused w h cs ds
   retouching-refused = retouch-refused w h cs ds

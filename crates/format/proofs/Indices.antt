@@ -1,6 +1,6 @@
 -- Laws of lists of indices: what is in them, and how many numbers pass a test.
 use mathlib.Core.Bool.{Bool, true, false, false≢true}
-use mathlib.Core.List.{List, [], _∷_, List·Memᴰ, List·Memᴰ·head, List·Memᴰ·tail, List·Memᴰ·append-cases, List·Memᴰ·not-nil, List·Memᴰ·cases-cons, Memᴰ·append-left, Memᴰ·append-right, Memᴰ·cast}
+use mathlib.Core.List.{List, [], _∷_, List·Memᴰ, List·Memᴰ·head, List·Memᴰ·tail, List·Memᴰ·not-nil, List·Memᴰ·cases-cons, Memᴰ·append-left, Memᴰ·append-right, Memᴰ·cast}
 use mathlib.Core.Logic.{_⊎_, inl, inr, ⊎-elim}
 use mathlib.Core.Path.{_≡_, refl, sym, subst}
 use Prim.Native.Nat.{ℕ, zero, suc, _<_}
@@ -10,8 +10,6 @@ use lib.Dec.{eqb}
 use lib.ListN.{getD}
 use Rattle.format.specs.Indices.{some, among, union, howMany}
 use Rattle.format.proofs.Choice.{decide, or-left, or-right, or-cases}
-
--- tests
 
 -- what is in a list
 
@@ -50,15 +48,6 @@ pub in-union : (h : ℕ → List ℕ) {r q : ℕ} (qs : List ℕ) → In q qs �
 in-union h [] m k = absurd (List·Memᴰ·not-nil m)
 in-union h {r} (x ∷ qs) m k =
     ⊎-elim (λ e. Memᴰ·append-left (union h qs) (subst (λ (y : ℕ). In r (h y)) e k)) (λ n. Memᴰ·append-right (h x) (in-union h qs n k)) (List·Memᴰ·cases-cons m)
-
--- and nothing else
-pub union-in : (h : ℕ → List ℕ) (r : ℕ) (qs : List ℕ) → In r (union h qs) → (q : ℕ) × In q qs × In r (h q)
-union-in h r [] m = absurd (List·Memᴰ·not-nil m)
-union-in h r (x ∷ qs) m =
-    ⊎-elim {C = (q : ℕ) × In q (x ∷ qs) × In r (h q)}
-    (λ k. (x, List·Memᴰ·head refl, k))
-    (λ n. let s = union-in h r qs n in (s .0, List·Memᴰ·tail (s .1), s .2))
-    (List·Memᴰ·append-cases (h x) m)
 
 -- a fact of each of a list
 abbrev pub Each : {A : Type 0} → (A → Type 0) → List A → Type 0

@@ -17,7 +17,7 @@ use Rattle.format.specs.Color.{transformColor, colorStored}
 use Rattle.format.specs.SubtractGreen.{subtractGreen, greenStored}
 use Rattle.format.specs.ColorTable.{perPixel, range, packedWidth, indexOf, indexAt, packed}
 use Rattle.format.specs.Stages.{partOf, forward, stored}
-use Rattle.format.specs.Retouch.{fiveSpots, packedOver, spotsOf, spotRecords}
+use Rattle.format.specs.Retouch.{fiveSpots, packedOver, placeOf, spotsOf, spotRecords}
 use Rattle.format.proofs.Choice.{if-same}
 use Rattle.format.proofs.Inside.{digits-same}
 use Rattle.format.proofs.Indices.{In, in-union}
@@ -39,6 +39,10 @@ module _ (s : Step) (q : ℕ) where
   pub spots-predictor : s .kind ≡ 0 → spotsOf s q ≡ fiveSpots (s .width) q
   unfolding spotsOf
   spots-predictor e = rw e
+
+  pub spots-place : (s .kind ≡ 0 → ⊥) → spotsOf s q ≡ placeOf s q ∷ []
+  unfolding spotsOf
+  spots-place n = rw (ne-eqb (s .kind) 0 n)
 
   pub spots-table : s .kind ≡ 3 → spotsOf s q ≡ packedOver (s .width) (s .size) q ∷ []
   unfolding spotsOf

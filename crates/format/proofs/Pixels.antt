@@ -1,7 +1,8 @@
 -- Laws of pixels whose channels are bytes.
 use mathlib.Core.Bool.{Bool, true, false, _&&_}
 use mathlib.Core.Path.{_≡_, refl}
-use Prim.Native.Nat.{_<_}
+use Prim.Native.Nat.{ℕ, _<_}
+use native.Mathlib.Omega.{arith}
 use borrow.Author.Tests.{eqb-true, eq-eqb}
 use lib.Dec.{eqb}
 use Rattle.format.specs.Choice.{if_then_else_}
@@ -26,6 +27,21 @@ pub each-sub-add : (u v : Pixel) → Bytes u → each sub (each add u v) v ≡ u
 unfolding each
 each-sub-add u v h =
     λ k. pixel (sub-add (u .red) (v .red) (h .red) k) (sub-add (u .green) (v .green) (h .green) k) (sub-add (u .blue) (v .blue) (h .blue) k) (sub-add (u .alpha) (v .alpha) (h .alpha) k)
+
+pub each-add-comm : (u v : Pixel) → each add u v ≡ each add v u
+unfolding each
+each-add-comm u v = λ k. pixel (byte (u .red) (v .red) k) (byte (u .green) (v .green) k) (byte (u .blue) (v .blue) k) (byte (u .alpha) (v .alpha) k)
+  where
+    byte : (a b : ℕ) → add a b ≡ add b a
+    byte a b = omega arith
+
+-- the first of three moved to the end
+pub each-add-turn : (u v t : Pixel) → each add u (each add v t) ≡ each add v (each add t u)
+unfolding each
+each-add-turn u v t = λ k. pixel (byte (u .red) (v .red) (t .red) k) (byte (u .green) (v .green) (t .green) k) (byte (u .blue) (v .blue) (t .blue) k) (byte (u .alpha) (v .alpha) (t .alpha) k)
+  where
+    byte : (a b c : ℕ) → add a (add b c) ≡ add b (add c a)
+    byte a b c = omega arith
 
 -- the test says what it should
 pub equal-true : (u v : Pixel) → equal u v ≡ true → u ≡ v

@@ -23,22 +23,17 @@ use Rattle.format.specs.ColorTable.{perPixel, packedWidth}
 use Rattle.format.specs.Chain.{narrowed, widthAt, stepAt, count}
 use Rattle.format.specs.Refusals.{chainRefusal}
 use Rattle.format.specs.Made.{modeNames, namedBy, named}
-use Rattle.format.specs.Retouch.{fiveSpots, packedOver, spotsOf, spotRecords}
+use Rattle.format.specs.Retouch.{fiveSpots, packedOver, placeOf, spotsOf, spotRecords}
 use Rattle.format.specs.Calls.{records}
 use Rattle.format.proofs.Choice.{if-same, every-at, not-every, decide}
 use Rattle.format.proofs.Indices.{In, Each, _and_, in-each}
 use Rattle.format.proofs.ColorTable.{perPixel-pos, column-packed, ceiling-pos}
 use Rattle.format.proofs.ByKind.{narrowed-table, narrowed-other}
 use Rattle.format.proofs.Stages.{width-record}
-use Rattle.format.proofs.Locality.{spots-predictor}
-use Rattle.format.proofs.Valid.{valid-once}
-use Rattle.format.proofs.Valid.{Fits, valid-fits}
+use Rattle.format.proofs.Locality.{spots-place, spots-predictor}
+use Rattle.format.proofs.Valid.{Fits, valid-fits, valid-once}
 
 -- where items go
-
--- the item that holds item q after a record: a table packs it, the other kinds leave it where it is
-abbrev pub placeOf : Step → ℕ → ℕ
-placeOf s q = if eqb (s .kind) 3 then packedOver (s .width) (s .size) q else q
 
 -- item q after the first t records is held by this item after the first k
 unfoldable pub placed : (ℕ → Step) → ℕ → ℕ → ℕ → ℕ
@@ -54,15 +49,6 @@ module _ (steps : ℕ → Step) (t : ℕ) where
   placed-next : (k : ℕ) → t ≤ k → (q : ℕ) → placed steps t (suc k) q ≡ placeOf (steps k) (placed steps t k q)
   unfolding placed
   placed-next k l q = rw (le-leb t k l)
-
--- a record that is not the predictor's has one spot for an item
-spots-place : (s : Step) (q : ℕ) → (s .kind ≡ 0 → ⊥) → spotsOf s q ≡ placeOf s q ∷ []
-unfolding spotsOf
-spots-place s q n = rw (ne-eqb (s .kind) 0 n) (go (eqb (s .kind) 3))
-  where
-    go : (b : Bool) → (if b then packedOver (s .width) (s .size) q ∷ [] else (q ∷ [])) ≡ (if b then packedOver (s .width) (s .size) q else q) ∷ []
-    go true = refl
-    go false = refl
 
 -- a union of lists of one is a map
 union-map : (h : ℕ → List ℕ) (f : ℕ → ℕ) → ((q : ℕ) → h q ≡ f q ∷ []) → (qs : List ℕ) → union h qs ≡ map f qs

@@ -58,6 +58,7 @@ module _ {P : Type 0} (w : ℕ) (f : ℕ → P) (x y : ℕ) where
   topLeft = f ((y - 1) * w + (x - 1))
 
   -- TR of the last column is column 0 of the same row. At width 2 that is L. At width 1 every pixel is on a border, and no mode is used
+  -- (proofs/Predictor.antt, widths 1 and 2)
   abbrev pub topRight : P
   topRight = if eqb (x + 1) w then f (y * w) else f ((y - 1) * w + (x + 1))
 

@@ -76,6 +76,6 @@ inRange x = leb 1 x && leb x 16384
 abbrev pub wholeRecords : List ℕ → Bool
 wholeRecords cs = eqb (length cs % 16) 0 && leb (length cs) 64
 
--- refusals 1 to 7. A chain is valid if there is none
+-- refusals 1 to 7. A chain is valid, for its width, height and data, if none of 2 to 7 applies
 unfoldable pub chainRefusal : ℕ → ℕ → List ℕ → ℕ → ℕ
 chainRefusal w h cs n = (1 unless (inRange w && inRange h)) before (2 unless wholeRecords cs) before recordsRefusal cs w h n (count cs)

@@ -21,9 +21,13 @@ fiveSpots w p = p ∷ (p + 1) ∷ (p + w - 1) ∷ (p + w) ∷ (p + w + 1) ∷ []
 abbrev pub packedOver : ℕ → ℕ → ℕ → ℕ
 packedOver w size q = q / w * packedWidth size w + q % w / perPixel size
 
--- where item q goes: the predictor has five spots for it, a table packs it, the other kinds leave it where it is
+-- the item that holds item q after a record that is not the predictor's: a table packs it, the other kinds leave it where it is
+abbrev pub placeOf : Step → ℕ → ℕ
+placeOf s q = if eqb (s .kind) 3 then packedOver (s .width) (s .size) q else q
+
+-- where item q goes: the predictor has five spots for it, the other kinds one place
 unfoldable pub spotsOf : Step → ℕ → List ℕ
-spotsOf s q = if eqb (s .kind) 0 then fiveSpots (s .width) q else if eqb (s .kind) 3 then packedOver (s .width) (s .size) q ∷ [] else q ∷ []
+spotsOf s q = if eqb (s .kind) 0 then fiveSpots (s .width) q else (placeOf s q ∷ [])
 
 -- the records, after the first k of a chain, that the spots of pixel p belong to: up to the predictor one item holds p, its five spots are made there, and each
 -- is in one record. Without a predictor p is the only spot. A spot is outside its stage exactly if its record is past the strip's last (proofs/Spots.antt)

@@ -7,7 +7,7 @@ use format::Step;
 use pixel::word::join;
 use pixel::word::wide;
 ghost use mathlib.Core.Path.{_≡_};
-ghost use Prim.Native.Nat.{_+_, _*_, _<_, _≤_};
+ghost use Prim.Native.Nat.{_+_, _*_, _≤_};
 ghost use lib.ListN.{length};
 ghost use Rattle.format.specs.Pixel.{pixel};
 ghost use Rattle.format.specs.ColorTable.{perPixel, range, indexOf};

@@ -1,5 +1,6 @@
 pub mod Modes
 pub mod Turn
+pub mod Ahead
 pub mod Bytewise
 pub mod Blocks
 pub mod Rows

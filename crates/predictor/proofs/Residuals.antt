@@ -1,7 +1,7 @@
 -- Residuals byte by byte: a loop over bytes is the mode's loop over pixels.
 use mathlib.Core.List.{List, [], _∷_}
 use mathlib.Core.Path.{_≡_, refl, sym, ap, _∙_}
-use Prim.Native.Nat.{ℕ, zero, suc, _+_, _-_, _*_, _%_, _<_, _≤_}
+use Prim.Native.Nat.{ℕ, zero, suc, _+_, _-_, _*_, _<_, _≤_}
 use native.Mathlib.Nat.{add-zero}
 use native.Mathlib.Omega.{arith}
 use lib.ListN.{List·getD-eq-default}
@@ -14,10 +14,6 @@ use Rattle.pixel.specs.Cells.{byteCells, pixelCells, run, given}
 use Rattle.pixel.proofs.Channels.{Channels, pixels-bytes}
 use Rattle.predictor.specs.Row.{around, residual}
 use Rattle.predictor.specs.Bytewise.{predictByte, byteResidual}
-
--- what wrapping subtraction gives
-pub less-back : (r a b p : ℕ) → (r + b) % 256 ≡ a → b ≡ p → r < 256 → r ≡ sub a p
-less-back r a b p e q h = rw (← q) (omega arith)
 
 pub byte-over-13 : (m l t tr tl : ℕ) → 14 ≤ m → predictByte m l t tr tl ≡ 0
 unfolding predictByte

@@ -1,4 +1,5 @@
 // The predictor transform: a row at a time, and whole pictures.
+mod left;
 pub mod rebuild;
 mod residual;
 mod row;

@@ -1,7 +1,7 @@
 // Residuals rebuilt to pixels in place, rows from the top. A row's part of the picture is lent to the row's work together with the row above.
+use crate::left::apply_predictor_transform_1;
 use crate::row::rebuild_row;
 use crate::segment::apply_predictor_transform_0;
-use crate::segment::apply_predictor_transform_1;
 use pixel::block::subsample_size;
 ghost use mathlib.Core.Path.{_≡_};
 ghost use Prim.Native.Nat.{_*_, _<_, _≤_};

@@ -1,5 +1,6 @@
 // Segments of a row rebuilt in place, a loop for each mode so that the mode is not tested for each pixel. `rows` holds the row above and then the row,
-// `w` pixels each; the pixels from `from` up to `to` gain their predictions. Modes 0 and 1 read no row above, and serve row 0 too.
+// `w` pixels each; the pixels from `from` up to `to` gain their predictions. Mode 0 reads no row above, and serves row 0 too.
+use crate::left::apply_predictor_transform_1;
 use crate::select::apply_predictor_transform_11;
 use format::Pixel;
 use pixel::byte::average2;
@@ -118,45 +119,6 @@ fn apply_predictor_transform_9(rows: &mut [u8], w: usize, from: usize, to: usize
     ensures { λ _. ⌜ now (rows .exit) ≡ run pixelCells (gains (around 9 w)) from (to - from) (now (rows .entry)) ⌝ }
 {
     add_average(rows, 4 * w, 4 * (w - 1), 4 * from, 4 * to);
-}
-
-fn gain_1(rows: &[u8], w: usize, i: usize, left: Pixel) -> Pixel
-    requires { ⌜ 4 * i + 4 ≤ length (now rows) ⌝ }
-    requires { ⌜ left ≡ pixels (now rows) (i - 1) ⌝ }
-    ensures { λ r. ⌜ r ≡ gains (around 1 w) (pixels (now (rows .entry))) i ⌝ }
-{
-    add_pixels(pixel_at(rows, i), left)
-}
-
-// Pixels i and i + 1 gain the pixel to the left of each; the second is returned. Both are read before one is written, so that eight bytes are moved at once.
-fn gain_pair(rows: &mut [u8], w: usize, i: usize, left: Pixel) -> Pixel
-    requires { ⌜ 4 * i + 8 ≤ length (now rows) ⌝ }
-    requires { ⌜ left ≡ pixels (now rows) (i - 1) ⌝ }
-    ensures { λ r. ⌜ (now (rows .exit) ≡ run pixelCells (gains (around 1 w)) i 2 (now (rows .entry))) × (r ≡ pixels (now (rows .exit)) (i + 1)) ⌝ }
-{
-    let a = pixel_at(rows, i);
-    let b = pixel_at(rows, i + 1);
-    let first = add_pixels(a, left);
-    let next = add_pixels(b, first);
-    put_pixel(rows, i, first);
-    put_pixel(rows, i + 1, next);
-    next
-}
-
-pub fn apply_predictor_transform_1(rows: &mut [u8], w: usize, from: usize, to: usize)
-    requires { ⌜ (1 ≤ from) × (from ≤ to) × (4 * to ≤ length (now rows)) ⌝ }
-    ensures { λ _. ⌜ now (rows .exit) ≡ run pixelCells (gains (around 1 w)) from (to - from) (now (rows .entry)) ⌝ }
-{
-    let mut left = pixel_at(rows, from - 1);
-    let mut i = from;
-    while i + 2 <= to {
-        left = gain_pair(rows, w, i, left);
-        i += 2;
-    }
-    if i < to {
-        let v = gain_1(rows, w, i, left);
-        put_pixel(rows, i, v);
-    }
 }
 
 fn gain_5(rows: &[u8], w: usize, i: usize, left: Pixel) -> Pixel

@@ -1,25 +1,22 @@
 -- Laws of a point's spots on their way through a chain.
-use mathlib.Core.Bool.{Bool, true, false}
 use mathlib.Core.List.{List, [], _∷_}
 use mathlib.Core.Path.{_≡_, refl, sym, ap, _∙_}
 use Prim.Native.Nat.{ℕ, zero, suc, _+_, _*_, _/_, _%_, _<_, _≤_}
 use native.Mathlib.Nat.{mul-le-mul-left, div-add-mod', div-le-self}
 use native.Mathlib.Numerals.{add-one}
 use native.Mathlib.Omega.{arith}
-use borrow.Author.Tests.{ne-eqb}
-use lib.Dec.{eqb}
 use lib.ListN.{length, getD, take, drop, length-append}
 use lib.Seq.{drop-cons, drop-length, length-take-le}
-use Rattle.format.specs.Choice.{if_then_else_}
 use Rattle.format.specs.Indices.{union}
 use Rattle.format.specs.declared.Step.{Step}
 use Rattle.format.specs.ColorTable.{packedWidth}
-use Rattle.format.specs.Retouch.{fiveSpots, packedOver, spotsOf, spotRecords}
+use Rattle.format.specs.Retouch.{fiveSpots, placeOf, spotsOf, spotRecords}
 use Rattle.format.proofs.ByKind.{narrowed-table}
 use Rattle.format.proofs.Stages.{narrowed-fewer}
+use Rattle.format.proofs.Locality.{spots-place}
 use Rattle.chain.specs.Ready.{Ready}
 use Rattle.chain.proofs.Ready.{step-sized}
-use Rattle.retouch.specs.Spots.{Followed, placed}
+use Rattle.retouch.specs.Spots.{Followed}
 
 -- packed columns p of w: a packed pixel's number is no larger than those of the items that it holds
 module _ (w p q : ℕ) (l : p ≤ w) where
@@ -50,25 +47,17 @@ abbrev moved : (ℕ → ℕ) → List ℕ → List ℕ
 moved g [] = []
 moved g (q ∷ qs) = g q ∷ moved g qs
 
-spotsOf-placed : (s : Step) → (s .kind ≡ 0 → ⊥) → (q : ℕ) → spotsOf s q ≡ placed s q ∷ []
-unfolding spotsOf placed
-spotsOf-placed s n q = rw (ne-eqb (s .kind) 0 n) (go (eqb (s .kind) 3))
-  where
-    go : (b : Bool) → (if b then packedOver (s .width) (s .size) q ∷ [] else q ∷ []) ≡ (if b then packedOver (s .width) (s .size) q else q) ∷ []
-    go true = refl
-    go false = refl
-
 union-moved : (h : ℕ → List ℕ) (g : ℕ → ℕ) → ((q : ℕ) → h q ≡ g q ∷ []) → (n : ℕ) (xs : List ℕ) → union h (take n xs) ≡ take n (moved g xs)
 union-moved h g e zero xs = refl
 union-moved h g e (suc n) [] = refl
 union-moved h g e (suc n) (q ∷ xs) = cc (e q, union-moved h g e n xs)
 
 pub follow-placed : (s : Step) (xs ys : List ℕ) (n : ℕ) → (s .kind ≡ 0 → ⊥) → length xs ≡ 5
-    → ys ≡ placed s (getD xs 0 0) ∷ placed s (getD xs 1 0) ∷ placed s (getD xs 2 0) ∷ placed s (getD xs 3 0) ∷ placed s (getD xs 4 0) ∷ []
+    → ys ≡ placeOf s (getD xs 0 0) ∷ placeOf s (getD xs 1 0) ∷ placeOf s (getD xs 2 0) ∷ placeOf s (getD xs 3 0) ∷ placeOf s (getD xs 4 0) ∷ []
     → take n ys ≡ union (spotsOf s) (take n xs)
 follow-placed s xs ys n d l e =
-    let p : moved (placed s) xs ≡ ys = ap (moved (placed s)) (five xs l) ∙ sym e in
-    rw (union-moved (spotsOf s) (placed s) (spotsOf-placed s d) n xs, p)
+    let p : moved (placeOf s) xs ≡ ys = ap (moved (placeOf s)) (five xs l) ∙ sym e in
+    rw (union-moved (spotsOf s) (placeOf s) (λ q. spots-place s q d) n xs, p)
 
 -- a predictor has five spots for the one item
 pub follow-predictor : (s : Step) (xs ys : List ℕ) (n : ℕ) → s .kind ≡ 0 → n ≡ 1 → length xs ≡ 5 → ys ≡ fiveSpots (s .width) (getD xs 0 0) → take 5 ys ≡ union (spotsOf s) (take n xs)
@@ -86,7 +75,7 @@ one-spot : (steps : ℕ → Step) (p k : ℕ) → ((j : ℕ) → j < k → steps
 unfolding spotRecords
 one-spot steps p zero n = refl
 one-spot steps p (suc k) n =
-    length-union (spotsOf (steps k)) (spotRecords steps k p) (λ q. ap length (spotsOf-placed (steps k) (n k (omega arith)) q))
+    length-union (spotsOf (steps k)) (spotRecords steps k p) (λ q. ap length (spots-place (steps k) q (n k (omega arith))))
     ∙ one-spot steps p k (λ j l. n j (omega arith))
 
 pub first-spot : (steps : ℕ → Step) (p : ℕ) → p ∷ [] ≡ spotRecords steps 0 p

@@ -2,11 +2,8 @@
 use mathlib.Core.List.{List}
 use mathlib.Core.Path.{_≡_}
 use Prim.Native.Nat.{ℕ, _<_, _≤_}
-use lib.Dec.{eqb}
 use lib.ListN.{length, take}
-use Rattle.format.specs.Choice.{if_then_else_}
 use Rattle.format.specs.declared.Step.{Step}
-use Rattle.format.specs.Retouch.{packedOver}
 use Rattle.retouch.specs.declared.spots.Spots.{Spots}
 
 -- the records that the spots belong to
@@ -17,10 +14,6 @@ recordsOf s = take (s .count) (s .records)
 pub record Sound (s : Spots) : Type 0 where
   pub places : length (s .records) ≡ 5
   pub most : s .count ≤ 5
-
--- where a record that is no predictor puts item q
-unfoldable pub placed : Step → ℕ → ℕ
-placed s q = if eqb (s .kind) 3 then packedOver (s .width) (s .size) q else q
 
 -- of the first `count` records at most one is a predictor, and each has its width
 pub record Followed (steps : ℕ → Step) (count : ℕ) : Type 0 where

@@ -8,9 +8,9 @@ ghost use mathlib.Core.List.{[], _∷_};
 ghost use Prim.Native.Nat.{_≤_};
 ghost use lib.ListN.{getD};
 ghost use Rattle.format.specs.Indices.{union};
-ghost use Rattle.format.specs.Retouch.{fiveSpots, packedOver, spotsOf, spotRecords};
+ghost use Rattle.format.specs.Retouch.{fiveSpots, packedOver, placeOf, spotsOf, spotRecords};
 ghost use Rattle.chain.specs.Ready.{stepsIn};
-ghost use Rattle.retouch.specs.Spots.{Followed, Sound, placed, recordsOf};
+ghost use Rattle.retouch.specs.Spots.{Followed, Sound, recordsOf};
 
 // The first `count` of `records`: one, or five in the order of the spots.
 pub struct Spots {
@@ -31,14 +31,14 @@ fn packed_over(s: Step, q: usize) -> usize
 // Where a record that is no predictor puts item q.
 fn place(s: Step, q: usize) -> usize
     requires { ⌜ (1 ≤ s .width) × (s .width ≤ 16384) ⌝ }
-    ensures { λ r. ⌜ (r ≡ placed s q) × (r ≤ q) ⌝ }
+    ensures { λ r. ⌜ (r ≡ placeOf s q) × (r ≤ q) ⌝ }
 {
     if s.kind == 3 { packed_over(s, q) } else { q }
 }
 
 fn place_each(s: Step, records: [usize; 5]) -> [usize; 5]
     requires { ⌜ (1 ≤ s .width) × (s .width ≤ 16384) ⌝ }
-    ensures { λ r. ⌜ (r ≡ placed s (getD records 0 0) ∷ placed s (getD records 1 0) ∷ placed s (getD records 2 0) ∷ placed s (getD records 3 0) ∷ placed s (getD records 4 0) ∷ []) × (getD r 0 0 ≤ getD records 0 0) ⌝ }
+    ensures { λ r. ⌜ (r ≡ placeOf s (getD records 0 0) ∷ placeOf s (getD records 1 0) ∷ placeOf s (getD records 2 0) ∷ placeOf s (getD records 3 0) ∷ placeOf s (getD records 4 0) ∷ []) × (getD r 0 0 ≤ getD records 0 0) ⌝ }
 {
     [
         place(s, records[0]),

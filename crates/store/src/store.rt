@@ -12,7 +12,7 @@ use color_table::find::hints_of;
 use format::Step;
 ghost use mathlib.Core.Path.{_≡_};
 ghost use mathlib.Core.Bool.{true};
-ghost use Prim.Native.Nat.{_*_, _<_, _≤_};
+ghost use Prim.Native.Nat.{_*_, _≤_};
 ghost use lib.ListN.{length};
 ghost use Rattle.format.specs.Picture.{pixels, written};
 ghost use Rattle.format.specs.Sizes.{Sized, Holds};

@@ -2,7 +2,7 @@
 use Rattle.format.specs.Color.{transformColor}
 use native.Mathlib.Omega.{arith}
 use borrow.Author.Needs.{needs}
-use Rattle.color.proofs.Delta.{wrapped}
+use Rattle.format.proofs.Byte.{sub-wrapped}
 use Rattle.color.proofs.color.store_pixel.Statement.{statement}
 use Rattle.color.proofs.color.store_pixel.Tie as tie
 
@@ -23,10 +23,10 @@ store-pixel-spec =
     let h = b .before in
     let a = h .before in
     rw (
-      wrapped _ _ _ (c .wrapping-sub-u83 .ensures) (omega arith) (omega arith),
+      sub-wrapped _ _ _ (c .wrapping-sub-u83 .ensures) (omega arith),
       d .color-transform-delta3 .ensures (e .red) (f .red-to-blue),
-      wrapped _ _ _ (b .wrapping-sub-u82 .ensures) (omega arith) (omega arith),
+      sub-wrapped _ _ _ (b .wrapping-sub-u82 .ensures) (omega arith),
       h .color-transform-delta2 .ensures (e .green) (f .green-to-blue),
-      wrapped _ _ _ (a .wrapping-sub-u8 .ensures) (omega arith) (omega arith),
+      sub-wrapped _ _ _ (a .wrapping-sub-u8 .ensures) (omega arith),
       a .before .color-transform-delta .ensures (e .blue) (f .green-to-red),
     )))

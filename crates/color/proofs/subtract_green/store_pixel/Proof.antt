@@ -1,7 +1,7 @@
 -- `store_pixel` meets its contract: red and blue lose green.
 use native.Mathlib.Omega.{arith}
 use borrow.Author.Needs.{needs}
-use Rattle.color.proofs.Delta.{wrapped}
+use Rattle.format.proofs.Byte.{sub-wrapped}
 use Rattle.color.proofs.subtract_green.store_pixel.Statement.{statement}
 use Rattle.color.proofs.subtract_green.store_pixel.Tie as tie
 
@@ -13,6 +13,6 @@ store-pixel-spec =
     (λ c κs. search needs)
     (λ c.
     rw (
-      wrapped _ _ _ (c .wrapping-sub-u82 .ensures) (omega arith) (omega arith),
-      wrapped _ _ _ (c .before .wrapping-sub-u8 .ensures) (omega arith) (omega arith),
+      sub-wrapped _ _ _ (c .wrapping-sub-u82 .ensures) (omega arith),
+      sub-wrapped _ _ _ (c .before .wrapping-sub-u8 .ensures) (omega arith),
     )))

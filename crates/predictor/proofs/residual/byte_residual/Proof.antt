@@ -1,13 +1,13 @@
 -- `byte_residual` meets its contract: a wrapping difference is the definition's.
 use Rattle.predictor.specs.Bytewise.{byteResidual}
-use Rattle.predictor.proofs.Residuals.{less-back}
+use Rattle.format.proofs.Byte.{sub-wrapped}
 use borrow.Author.Needs.{needs}
 use Rattle.predictor.proofs.residual.byte_residual.Statement.{statement}
 use Rattle.predictor.proofs.residual.byte_residual.Tie as tie
 
 returns : tie.Need-returns
 unfolding byteResidual
-returns c = less-back _ _ _ _ (c .wrapping-sub-u8 .ensures) (c .before .predict-byte .ensures) (search needs)
+returns c = rw (← c .before .predict-byte .ensures) (sub-wrapped _ _ _ (c .wrapping-sub-u8 .ensures) (search needs))
 
 pub byte-residual-spec : {M : Type 1} → statement M
 byte-residual-spec =

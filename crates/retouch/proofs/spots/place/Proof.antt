@@ -3,12 +3,10 @@ use mathlib.Core.Path.{refl}
 use native.Mathlib.Omega.{arith}
 use borrow.Author.Needs.{needs}
 use borrow.Author.Tests.{eq-eqb, ne-eqb}
-use Rattle.retouch.specs.Spots.{placed}
 use Rattle.retouch.proofs.spots.place.Statement.{statement}
 use Rattle.retouch.proofs.spots.place.Tie as tie
 
 pub place-spec : {M : Type 1} → statement M
-unfolding placed
 place-spec =
     tie.close
     (tie.spec

@@ -1,8 +1,8 @@
 -- `gain_1` meets its contract: its prediction is line 1 of the table of modes.
 use Rattle.format.specs.Predictor.{predict}
 use borrow.Author.Needs.{needs}
-use Rattle.predictor.proofs.segment.gain_1.Statement.{statement}
-use Rattle.predictor.proofs.segment.gain_1.Tie as tie
+use Rattle.predictor.proofs.left.gain_1.Statement.{statement}
+use Rattle.predictor.proofs.left.gain_1.Tie as tie
 
 returns : tie.Need-returns
 unfolding predict

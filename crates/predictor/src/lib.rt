@@ -1,8 +1,8 @@
 // The predictor transform: a row at a time, and whole pictures.
+pub mod forward;
+pub mod inverse;
 mod left;
-pub mod rebuild;
 mod residual;
 mod row;
 mod segment;
 mod select;
-pub mod store;

@@ -4,7 +4,7 @@ use color::color::apply_color_transform;
 use color::subtract_green::apply_subtract_green_transform;
 use color_table::unpack::apply_color_indexing_transform;
 use format::Step;
-use predictor::rebuild::apply_predictor_transform;
+use predictor::inverse::apply_predictor_transform;
 ghost use mathlib.Core.Path.{_≡_};
 ghost use Prim.Native.Nat.{_*_};
 ghost use lib.ListN.{length};

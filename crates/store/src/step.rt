@@ -33,7 +33,7 @@ fn predict_row(s: Step, height: usize, data: &[u8], y: usize, row: &mut [u8], ro
     let from = s.offset;
     let to = from + s.length;
     copy_pixels(row, &mut rows[a..b], w);
-    predictor::store::store_row(
+    predictor::forward::store_row(
         &rows[0..b],
         &mut row[0..a],
         w,

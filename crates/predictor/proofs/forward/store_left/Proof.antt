@@ -9,8 +9,8 @@ use Rattle.pixel.specs.Cells.{pixelCells, run, given}
 use Rattle.pixel.proofs.Cells.{run-none, run-done}
 use Rattle.predictor.specs.Row.{leftResidual}
 use Rattle.predictor.proofs.Turn.{run-turn}
-use Rattle.predictor.proofs.store.store_left.Statement.{statement}
-use Rattle.predictor.proofs.store.store_left.Tie as tie
+use Rattle.predictor.proofs.forward.store_left.Statement.{statement}
+use Rattle.predictor.proofs.forward.store_left.Tie as tie
 
 abbrev Inv-loop : tie.InvT-loop
 Inv-loop row out₀ width x₀ out x =

@@ -6,8 +6,8 @@ use borrow.Author.Needs.{needs}
 use lib.ListN.{length}
 use Rattle.pixel.proofs.Blocks.{data-there}
 use Rattle.predictor.proofs.Rows.{pair-there, row-back}
-use Rattle.predictor.proofs.rebuild.rebuild_row_below.Statement.{statement}
-use Rattle.predictor.proofs.rebuild.rebuild_row_below.Tie as tie
+use Rattle.predictor.proofs.inverse.rebuild_row_below.Statement.{statement}
+use Rattle.predictor.proofs.inverse.rebuild_row_below.Tie as tie
 
 pair : (s : tie.Start) → (s .args .y - 1) * s .args .width + 2 * s .args .width ≤ s .args .height * s .args .width
 pair s = pair-there _ _ _ (s .pre .1 .1 .1 .0) (s .pre .1 .1 .1 .1)

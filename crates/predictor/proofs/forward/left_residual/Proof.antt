@@ -1,7 +1,7 @@
 -- `left_residual` meets its contract.
 use borrow.Author.Needs.{needs}
-use Rattle.predictor.proofs.store.left_residual.Statement.{statement}
-use Rattle.predictor.proofs.store.left_residual.Tie as tie
+use Rattle.predictor.proofs.forward.left_residual.Statement.{statement}
+use Rattle.predictor.proofs.forward.left_residual.Tie as tie
 
 pub left-residual-spec : {M : Type 1} → statement M
 left-residual-spec =

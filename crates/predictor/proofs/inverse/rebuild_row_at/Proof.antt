@@ -3,8 +3,8 @@ use native.Mathlib.Nat.{zero-mul}
 use native.Mathlib.Omega.{arith}
 use borrow.Author.Needs.{needs}
 use Rattle.pixel.proofs.Blocks.{row-there}
-use Rattle.predictor.proofs.rebuild.rebuild_row_at.Statement.{statement}
-use Rattle.predictor.proofs.rebuild.rebuild_row_at.Tie as tie
+use Rattle.predictor.proofs.inverse.rebuild_row_at.Statement.{statement}
+use Rattle.predictor.proofs.inverse.rebuild_row_at.Tie as tie
 
 pub rebuild-row-at-spec : {M : Type 1} → statement M
 rebuild-row-at-spec =

@@ -8,8 +8,8 @@ use Rattle.format.specs.Picture.{pixels}
 use Rattle.pixel.proofs.Blocks.{data-there, data-part}
 use Rattle.pixel.proofs.Part.{pixels-part}
 use Rattle.predictor.proofs.StoredRows.{stored-row}
-use Rattle.predictor.proofs.store.store_row.Statement.{statement}
-use Rattle.predictor.proofs.store.store_row.Tie as tie
+use Rattle.predictor.proofs.forward.store_row.Statement.{statement}
+use Rattle.predictor.proofs.forward.store_row.Tie as tie
 
 blocks : (c : tie.After-subsample-size)
     → 4 * (c .before .before .before .before .before .args .y / 2 ^ c .before .before .before .before .before .args .bits * c .subsample-size .result) + 4 * c .subsample-size .result ≤ length (c .before .before .before .before .before .args .blocks .now)

@@ -3,8 +3,8 @@ use mathlib.Core.Path.{_∙_}
 use native.Mathlib.Omega.{arith}
 use borrow.Author.Needs.{needs}
 use Rattle.predictor.proofs.StoredRows.{stored-first-row}
-use Rattle.predictor.proofs.store.store_first_row.Statement.{statement}
-use Rattle.predictor.proofs.store.store_first_row.Tie as tie
+use Rattle.predictor.proofs.forward.store_first_row.Statement.{statement}
+use Rattle.predictor.proofs.forward.store_first_row.Tie as tie
 
 pub store-first-row-spec : {M : Type 1} → statement M
 store-first-row-spec =

@@ -1,8 +1,8 @@
 -- `rebuild_first_row` meets its contract: modes 0 and 1 are the border rules of row 0.
 use borrow.Author.Needs.{needs}
 use Rattle.predictor.proofs.Rows.{first-row}
-use Rattle.predictor.proofs.rebuild.rebuild_first_row.Statement.{statement}
-use Rattle.predictor.proofs.rebuild.rebuild_first_row.Tie as tie
+use Rattle.predictor.proofs.inverse.rebuild_first_row.Statement.{statement}
+use Rattle.predictor.proofs.inverse.rebuild_first_row.Tie as tie
 
 pub rebuild-first-row-spec : {M : Type 1} → statement M
 rebuild-first-row-spec =

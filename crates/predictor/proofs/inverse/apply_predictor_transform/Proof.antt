@@ -9,8 +9,8 @@ use Rattle.format.specs.Predictor.{gained}
 use Rattle.pixel.specs.Cells.{pixelCells, run}
 use Rattle.pixel.proofs.Front.{pixels-run}
 use Rattle.pixel.proofs.Rows.{no-rows, row-more}
-use Rattle.predictor.proofs.rebuild.apply_predictor_transform.Statement.{statement}
-use Rattle.predictor.proofs.rebuild.apply_predictor_transform.Tie as tie
+use Rattle.predictor.proofs.inverse.apply_predictor_transform.Statement.{statement}
+use Rattle.predictor.proofs.inverse.apply_predictor_transform.Tie as tie
 
 abbrev Inv-loop : tie.InvT-loop
 Inv-loop image₀ width height bits blocks y₀ image y =

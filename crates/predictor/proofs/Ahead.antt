@@ -93,11 +93,11 @@ left-turn w a i j xs₀ xs ys l v k h f s q r =
     }
 
 -- four pixels that gain sums made ahead
-pub four : (w i : ℕ) (xs ys₁ ys₂ ys₃ ys₄ : List ℕ) (u v : Pixel) (s : Four) → 4 * i + 16 ≤ length xs → Ahead (pixels xs) i u v s
+pub four-gained : (w i : ℕ) (xs ys₁ ys₂ ys₃ ys₄ : List ℕ) (u v : Pixel) (s : Four) → 4 * i + 16 ≤ length xs → Ahead (pixels xs) i u v s
     → ys₁ ≡ putPixel xs i (each add u (s .a)) → ys₂ ≡ putPixel ys₁ (i + 1) (each add v (s .b)) → ys₃ ≡ putPixel ys₂ (i + 2) (each add (each add u (s .a)) (s .c))
     → ys₄ ≡ putPixel ys₃ (i + 3) (each add (each add v (s .b)) (s .d))
     → (ys₄ ≡ run pixelCells (gains (around 1 w)) i 4 xs) × (each add (each add u (s .a)) (s .c) ≡ pixels ys₄ (i + 2)) × (each add (each add v (s .b)) (s .d) ≡ pixels ys₄ (i + 3))
-four w i xs ys₁ ys₂ ys₃ ys₄ u v s f t e₁ e₂ e₃ e₄ =
+four-gained w i xs ys₁ ys₂ ys₃ ys₄ u v s f t e₁ e₂ e₃ e₄ =
     let p = pixels xs in
     let a = each add u (s .a) in
     let b = each add v (s .b) in

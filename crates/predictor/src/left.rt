@@ -21,6 +21,7 @@ struct Four {
     d: Pixel,
 }
 
+// A residual and the one before it, added.
 fn sum_at(rows: &[u8], i: usize) -> Pixel
     requires { ⌜ (1 ≤ i) × (4 * i + 4 ≤ length (now rows)) ⌝ }
     ensures { λ r. ⌜ r ≡ summed (pixels (now (rows .entry))) i ⌝ }

@@ -18,14 +18,15 @@ pub fn judge(measured: &[Measured]) {
         0.9,
         &ratios(chains(), rebuilding),
     );
-    judge_all(
-        "storing a class map by each whole chain takes at most 3 times its rebuilding",
-        3.0,
-        &ratios(
-            chains().filter(|line| line.content == Content::ClassMap),
-            |line| line.times.storing / line.times.here,
-        ),
-    );
+    for content in [Content::ClassMap, Content::Random] {
+        let stored = chains().filter(|line| line.content == content);
+        let name = content.name();
+        judge_all(
+            &format!("storing by each whole chain takes at most 3 times its rebuilding ({name})"),
+            3.0,
+            &ratios(stored, |line| line.times.storing / line.times.here),
+        );
+    }
     let storing = |colors| {
         let table = |line: &&Measured| {
             line.table == Some(colors) && line.materials == 2 && line.content == Content::ClassMap

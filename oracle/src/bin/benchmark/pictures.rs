@@ -5,8 +5,9 @@ use oracle::random::Xorshift;
 /// One number of colors in each band of tables.
 pub const COLORS: [u16; 4] = [2, 4, 16, 256];
 
-/// Regions at full size: pieces of about 130 by 130 pixels.
-const SEEDS: usize = 120;
+/// Regions of the class map, unless another number is asked for: at full size, pieces of about 130
+/// by 130 pixels.
+pub const REGIONS: usize = 120;
 
 /// How far a border strays, in pixels.
 const JAGGED: usize = 2;
@@ -29,6 +30,7 @@ impl Content {
 pub struct Pictures {
     pub width: u16,
     pub height: u16,
+    count: usize,
     /// The region of each pixel.
     regions: Vec<usize>,
 }
@@ -37,10 +39,10 @@ impl Pictures {
     /// Each pixel belongs to the region of the seed that is nearest to it, out of seeds thrown at
     /// random. Rows and columns are shifted by up to a few pixels before that, each by at most one
     /// more or less than the one before, so that borders stray as those that a camera sees.
-    pub fn new(width: u16, height: u16) -> Self {
+    pub fn new(width: u16, height: u16, count: usize) -> Self {
         let mut random = Xorshift::new(0x4528_21E6_38D0_1377);
         let (columns, rows) = (usize::from(width), usize::from(height));
-        let seeds: Vec<(i32, i32)> = (0..SEEDS)
+        let seeds: Vec<(i32, i32)> = (0..count)
             .map(|_| (random.below(columns) as i32, random.below(rows) as i32))
             .collect();
         let shifts = |random: &mut Xorshift, n: usize| -> Vec<i32> {
@@ -63,6 +65,7 @@ impl Pictures {
         Self {
             width,
             height,
+            count,
             regions,
         }
     }
@@ -75,7 +78,7 @@ impl Pictures {
         match content {
             Content::Random => any(self.regions.len()),
             Content::ClassMap => {
-                let materials = any(SEEDS);
+                let materials = any(self.count);
                 let material = |&region: &usize| materials[region];
                 self.regions.iter().map(material).collect()
             }

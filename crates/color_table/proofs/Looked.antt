@@ -1,20 +1,21 @@
 -- Packed pixels of one index each.
 use mathlib.Core.List.{List}
 use mathlib.Core.Path.{_≡_, sym, ap, _∙_}
-use Prim.Native.Nat.{ℕ, _+_, _-_, _*_, _/_, _%_, _<_, _≤_}
-use native.Mathlib.Nat.{add-zero, div-one, mod-one, div-add-mod', mod-lt, mod-eq-of-lt}
+use Prim.Native.Nat.{ℕ, _+_, _-_, _*_, _%_, _<_, _≤_}
+use native.Mathlib.Nat.{add-zero, zero-add, div-one, mod-one, div-add-mod', mod-lt, mod-eq-of-lt}
 use native.Mathlib.Omega.{arith}
 use borrow.Author.Tests.{lt-leb}
 use lib.Dec.{leb}
+use lib.ListN.{length, take, drop}
 use Rattle.format.specs.declared.Pixel.{Pixel}
 use Rattle.format.specs.Picture.{Picture, pixels}
-use Rattle.format.specs.ColorTable.{perPixel, range, packedWidth, entry, unpacked}
+use Rattle.format.specs.ColorTable.{perPixel, entry, unpacked}
 use Rattle.pixel.specs.Cells.{pixelCells, putPixel, run, given}
-use Rattle.pixel.proofs.Cells.{pixel-lawful, run-after, run-append}
+use Rattle.pixel.proofs.Cells.{pixel-lawful, run-before, run-after, run-append}
 use Rattle.color_table.specs.Table.{entryIn, TableOf}
-use Rattle.color_table.specs.Unpack.{looked, rowOf}
-use Rattle.pixel.proofs.Given.{given-same}
-use Rattle.pixel.proofs.Rows.{row-more}
+use Rattle.color_table.specs.Unpack.{looked}
+use Rattle.pixel.proofs.Given.{given-same, given-apart}
+use Rattle.pixel.proofs.Part.{back, part-run, pixel-part}
 
 pub given-one : (f : Picture) (i : ℕ) (xs ys : List ℕ) (v : Pixel) → v ≡ f i → ys ≡ putPixel xs i v → ys ≡ run pixelCells (given f) i 1 xs
 unfolding run given
@@ -25,19 +26,18 @@ unfolding looked
 looked-is e g i p h = ap e (sym (mod-eq-of-lt (h .1)) ∙ ap (λ (z : ℕ). z % 256) (h .0))
 
 -- four indices that were read first
-pub looked-four : (e : Picture) (i p q r s : ℕ) (xs zs ys : List ℕ) → (p ≡ pixels xs i .green) × (p < 256) → (q ≡ pixels xs (i + 1) .green) × (q < 256) → (r ≡ pixels xs (i + 2) .green) × (r < 256)
-    → (s ≡ pixels xs (i + 3) .green) × (s < 256) → zs ≡ putPixel (putPixel xs i (e p)) (i + 1) (e q) → ys ≡ putPixel (putPixel zs (i + 2) (e r)) (i + 2 + 1) (e s)
+pub looked-four : (e : Picture) (i p q r s : ℕ) (xs ys : List ℕ) → (p ≡ pixels xs i .green) × (p < 256) → (q ≡ pixels xs (i + 1) .green) × (q < 256) → (r ≡ pixels xs (i + 2) .green) × (r < 256)
+    → (s ≡ pixels xs (i + 3) .green) × (s < 256) → ys ≡ putPixel (putPixel (putPixel (putPixel xs i (e p)) (i + 1) (e q)) (i + 2) (e r)) (i + 3) (e s)
     → ys ≡ run pixelCells (given (looked e (pixels xs))) i 4 xs
 unfolding run given
-looked-four e i p q r s xs zs ys hp hq hr hs t u =
+looked-four e i p q r s xs ys hp hq hr hs t =
     let z = add-zero i in
-    let w : i + 2 + 1 ≡ i + 3 = omega arith in
     let f = looked e (pixels xs) in
     let a = looked-is e (pixels xs) i p hp in
     let b = looked-is e (pixels xs) (i + 1) q hq in
     let c = looked-is e (pixels xs) (i + 2) r hr in
     let d = looked-is e (pixels xs) (i + 3) s hs in
-    u ∙ cc (t)
+    t ∙ cc
 
 -- pixels ahead are as they were
 pub looked-next : (e : Picture) (a i k m l : ℕ) (xs₀ xs ys : List ℕ) → xs ≡ run pixelCells (given (looked e (pixels xs₀))) a k xs₀ → ys ≡ run pixelCells (given (looked e (pixels xs))) i m xs
@@ -50,6 +50,31 @@ looked-next e a i k m l xs₀ xs ys r q s t =
     let same : ys ≡ run pixelCells (given f) i m xs = q ∙ given-same (looked e (pixels xs)) f i xs m (λ j u v. ap (λ (p : Pixel). e (p .green % 256)) (kept j u)) in
     same ∙ rw (s, t, r) (run-append pixelCells (given f) a xs₀ k m)
 
+-- four pixels more of each of two parts, from 0 and from h on
+pub looked-both : (e : Picture) (h i : ℕ) (xs₀ xs ys zs : List ℕ)
+    → xs ≡ run pixelCells (given (looked e (pixels xs₀))) h i (run pixelCells (given (looked e (pixels xs₀))) 0 i xs₀)
+    → ys ≡ run pixelCells (given (looked e (pixels xs))) i 4 xs → zs ≡ run pixelCells (given (looked e (pixels ys))) (h + i) 4 ys → i + 4 ≤ h
+    → zs ≡ run pixelCells (given (looked e (pixels xs₀))) h (i + 4) (run pixelCells (given (looked e (pixels xs₀))) 0 (i + 4) xs₀)
+unfolding looked
+looked-both e h i xs₀ xs ys zs r p q l =
+    let f = looked e (pixels xs₀) in
+    let front = run pixelCells (given f) 0 i xs₀ in
+    let kept : (j : ℕ) → i ≤ j → j < h → pixels xs j ≡ pixels xs₀ j =
+    λ j a b. ap (λ (us : List ℕ). pixels us j) r ∙ run-before pixelCells pixel-lawful (given f) h front i j b ∙ run-after pixelCells pixel-lawful (given f) 0 xs₀ i j (omega arith) in
+    let p' : ys ≡ run pixelCells (given f) i 4 xs = p ∙ given-same (looked e (pixels xs)) f i xs 4 (λ j a b. ap (λ (v : Pixel). e (v .green % 256)) (kept j a (omega arith))) in
+    let far : (j : ℕ) → h + i ≤ j → pixels ys j ≡ pixels xs₀ j =
+    λ j a. ap (λ (us : List ℕ). pixels us j) p' ∙ run-after pixelCells pixel-lawful (given f) i xs 4 j (omega arith) ∙ ap (λ (us : List ℕ). pixels us j) r
+    ∙ run-after pixelCells pixel-lawful (given f) h front i j a ∙ run-after pixelCells pixel-lawful (given f) 0 xs₀ i j (omega arith) in
+    let q' : zs ≡ run pixelCells (given f) (h + i) 4 ys = q ∙ given-same (looked e (pixels ys)) f (h + i) ys 4 (λ j a b. ap (λ (v : Pixel). e (v .green % 256)) (far j a)) in
+    let swap : ys ≡ run pixelCells (given f) h i (run pixelCells (given f) i 4 front) = p' ∙ ap (run pixelCells (given f) i 4) r ∙ given-apart f i 4 h i front l in
+    let near : run pixelCells (given f) i 4 front ≡ run pixelCells (given f) 0 (i + 4) xs₀ = rw (zero-add i) at (run-append pixelCells (given f) 0 xs₀ i 4) in
+    q' ∙ ap (run pixelCells (given f) (h + i) 4) (swap ∙ ap (run pixelCells (given f) h i) near) ∙ run-append pixelCells (given f) h (run pixelCells (given f) 0 (i + 4) xs₀) i 4
+
+-- both parts are there
+pub looked-whole : (e : Picture) (h i : ℕ) (xs₀ xs : List ℕ) → xs ≡ run pixelCells (given (looked e (pixels xs₀))) h i (run pixelCells (given (looked e (pixels xs₀))) 0 i xs₀) → i ≡ h
+    → xs ≡ run pixelCells (given (looked e (pixels xs₀))) 0 (h + h) xs₀
+looked-whole e h i xs₀ xs r q = (rw q at r) ∙ (rw (zero-add h) at (run-append pixelCells (given (looked e (pixels xs₀))) 0 xs₀ h h))
+
 one-index : (size : ℕ) → 16 < size → perPixel size ≡ 1
 unfolding perPixel
 one-index size l =
@@ -57,40 +82,30 @@ one-index size l =
     let b : leb size 4 ≡ _ = lt-leb size 4 (omega arith) in
     rw (a, b, lt-leb size 16 l)
 
-module _ (size : ℕ) (e : Picture) (t : List (List ℕ)) (h : TableOf 256 e t) (l : 16 < size) where
-  looked-at : (g : Picture) (i : ℕ) → looked (entryIn t) g i ≡ rowOf (range (perPixel size)) (perPixel size) e g 0 i
-  unfolding looked rowOf
-  looked-at g i =
-      let k : i - 0 ≡ i = omega arith in
-      let b : g i .green % 256 < 256 = mod-lt (g i .green) {m = 256} (omega arith) in
-      rw (one-index size l, k, div-one i, mod-one i, div-one (g i .green)) (h .at (g i .green % 256) b)
-
-  pub looked-row : (first w : ℕ) (xs ys : List ℕ) → first ≡ 0 → ys ≡ run pixelCells (given (looked (entryIn t) (pixels xs))) 0 w xs
-      → ys ≡ run pixelCells (given (rowOf (range (perPixel size)) (perPixel size) e (pixels xs) first)) first w xs
-  looked-row first w xs ys z r =
-      rw z (r ∙ given-same (looked (entryIn t) (pixels xs)) (rowOf (range (perPixel size)) (perPixel size) e (pixels xs) 0) 0 xs w (λ i f u. looked-at (pixels xs) i))
-
--- such rows stay where they are
-pub looked-stays : (size w y : ℕ) → 16 < size → y * w - y * packedWidth size w ≡ 0
-looked-stays size w y l =
+-- a pixel is made of the one at its place
+looked-at : (w size : ℕ) (e g : Picture) (t : List (List ℕ)) (i : ℕ) → TableOf 256 (entry size e) t → 16 < size → looked (entryIn t) g i ≡ unpacked w size e g i
+unfolding looked unpacked
+looked-at w size e g t i h l =
     let k : w + 1 - 1 ≡ w = omega arith in
-    rw (one-index size l, div-one (w + 1 - 1), k) (omega arith)
+    let b : g i .green % 256 < 256 = mod-lt (g i .green) {m = 256} (omega arith) in
+    rw (one-index size l, div-one (w + 1 - 1), div-one (i % w), mod-one (i % w), k, div-add-mod' i w, div-one (g i .green)) (h .at (g i .green % 256) b)
 
--- the rows of the picture
+-- the picture's part of the buffer, lent as one row
+looked-lent : (e : Picture) (n : ℕ) (xs ys : List ℕ) → ys ≡ run pixelCells (given (looked e (pixels (take (4 * n - 0) (drop 0 xs))))) 0 n (take (4 * n - 0) (drop 0 xs)) → 4 * n ≤ length xs
+    → back 0 (4 * n - 0) xs ys ≡ run pixelCells (given (looked e (pixels xs))) 0 n xs
+unfolding looked given
+looked-lent e n xs ys r fits =
+    let k : 4 * n - 0 ≡ 4 * n = omega arith in
+    let f = looked e (pixels xs) in
+    let part = take (4 * n) (drop 0 xs) in
+    let same : run pixelCells (given (looked e (pixels part))) 0 n part ≡ run pixelCells (given f) 0 n part =
+    given-same (looked e (pixels part)) f 0 part n (λ i l u. ap (λ (v : Pixel). e (v .green % 256)) (pixel-part 0 (4 * n) xs (omega arith) i (omega arith) ∙ ap (pixels xs) (zero-add i))) in
+    let s : ys ≡ run pixelCells (given f) 0 n part = (rw k at r) ∙ same in
+    rw (k, s) (part-run (given f) (given f) 0 n 0 xs (omega arith) n (omega arith) (λ p q i l u h. ap f (zero-add i)))
 
-module _ (w size : ℕ) (e : Picture) (some : 1 ≤ w) (l : 16 < size) where
-  -- a pixel is made of the one at its place
-  stays : (f g : Picture) (i : ℕ) → f i ≡ g i → unpacked w size e f i ≡ unpacked w size e g i
-  unfolding unpacked
-  stays f g i q =
-      let k : w + 1 - 1 ≡ w = omega arith in
-      rw (one-index size l, div-one (w + 1 - 1), div-one (i % w), mod-one (i % w), k, div-add-mod' i w) (ap (λ (v : Pixel). entry size e (v .green / 1 % 256)) q)
-
-  -- a row more, from the top
-  pub looked-more : (y : ℕ) (xs₀ xs ys : List ℕ) → xs ≡ run pixelCells (given (unpacked w size e (pixels xs₀))) 0 (y * w) xs₀ → ys ≡ run pixelCells (given (unpacked w size e (pixels xs))) (y * w) w xs
-      → ys ≡ run pixelCells (given (unpacked w size e (pixels xs₀))) 0 ((y + 1) * w) xs₀
-  looked-more y xs₀ xs ys r q =
-      let f = unpacked w size e (pixels xs₀) in
-      let kept : (j : ℕ) → y * w ≤ j → pixels xs j ≡ pixels xs₀ j =
-      λ j u. ap (λ (zs : List ℕ). pixels zs j) r ∙ run-after pixelCells pixel-lawful (given f) 0 xs₀ (y * w) j (omega arith) in
-      row-more (given f) y w xs₀ xs ys r (q ∙ given-same (unpacked w size e (pixels xs)) f (y * w) xs w (λ i t u. stays (pixels xs) (pixels xs₀) i (kept i t)))
+-- the whole picture
+pub looked-all : (w size : ℕ) (e : Picture) (t : List (List ℕ)) → TableOf 256 (entry size e) t → 16 < size → (n : ℕ) (xs ys : List ℕ)
+    → ys ≡ run pixelCells (given (looked (entryIn t) (pixels (take (4 * n - 0) (drop 0 xs))))) 0 n (take (4 * n - 0) (drop 0 xs)) → 4 * n ≤ length xs
+    → back 0 (4 * n - 0) xs ys ≡ run pixelCells (given (unpacked w size e (pixels xs))) 0 n xs
+looked-all w size e t h l n xs ys r fits =
+    looked-lent (entryIn t) n xs ys r fits ∙ given-same (looked (entryIn t) (pixels xs)) (unpacked w size e (pixels xs)) 0 xs n (λ i f u. looked-at w size e (pixels xs) t i h l)

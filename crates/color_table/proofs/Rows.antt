@@ -2,7 +2,7 @@
 use mathlib.Core.List.{List}
 use mathlib.Core.Path.{_≡_, refl, sym, ap, _∙_}
 use Prim.Native.Nat.{ℕ, suc, _+_, _-_, _*_, _/_, _%_, _^_, _<_, _≤_}
-use native.Mathlib.Nat.{pow-zero, pow-suc, div-one, div-div-eq-div-mul, mod-lt, mul-le-mul-left, mul-le-mul-right, mul-one, suc-mul, div-lt-iff-lt-mul, div-mul-le-self, lt-div-mul-add, div-le-of-le-mul}
+use native.Mathlib.Nat.{add-zero, pow-zero, pow-suc, div-one, div-div-eq-div-mul, mod-lt, mul-le-mul-left, mul-le-mul-right, mul-one, suc-mul, div-lt-iff-lt-mul, div-mul-le-self, lt-div-mul-add, div-le-of-le-mul}
 use native.Mathlib.Decide.{ℕ-discrete}
 use native.Mathlib.Omega.{arith}
 use lib.Arith.{digits-div, digits-mod}
@@ -12,11 +12,13 @@ use Rattle.format.specs.Picture.{Picture, pixels, ceiling}
 use Rattle.format.specs.ColorTable.{perPixel, range, packedWidth, entry, unpacked}
 use Rattle.format.proofs.ColorTable.{perPixel-pos, column-packed, ceiling-pos}
 use Rattle.pixel.specs.Cells.{pixelCells, putPixel, run, given}
-use Rattle.pixel.proofs.Cells.{pixel-lawful, run-before, run-at}
+use Rattle.pixel.proofs.Cells.{pixel-lawful, run-before, run-at, run-append}
+use Rattle.pixel.proofs.Blocks.{row-there}
 use Rattle.pixel.proofs.Part.{back, part-run, pixel-part}
 use Rattle.color_table.specs.Table.{entryIn, TableOf, ColumnsOf}
 use Rattle.color_table.specs.Unpack.{spread, rowOf}
-use Rattle.pixel.proofs.Given.{given-put, given-same, given-join}
+use Rattle.color_table.proofs.Records.{given-four}
+use Rattle.pixel.proofs.Given.{given-none, given-put, given-same, given-join}
 
 -- digits of a byte
 
@@ -46,23 +48,41 @@ module _ (u : ℕ) (e : Picture) (b₀ a : ℕ) where
   column-more n k m i j c xs₀ xs ys v h r q p l s x y z =
       rw z (given-put (spread u e b₀ a) a k xs₀ xs ys v r (rw y at q ∙ h .at b₀ k l s ∙ spread-at (b₀ / u ^ k) k refl) (rw x at p))
 
-  pub column-two : (n k : ℕ) (c xs₀ xs ys : List ℕ) → ColumnsOf u n e c → xs ≡ run pixelCells (given (spread u e b₀ a)) a k xs₀
-      → ys ≡ putPixel (putPixel xs (a + k) (pixels c (b₀ * n + k))) (a + k + 1) (pixels c (b₀ * n + k + 1)) → b₀ < 256 → k + 2 ≤ n → ys ≡ run pixelCells (given (spread u e b₀ a)) a (k + 2) xs₀
-  column-two n k c xs₀ xs ys h r p l s =
-      let one = column-more n k (k + 1) (a + k) (b₀ * n + k) c xs₀ xs _ _ h r refl refl l (omega arith) refl refl refl in
-      column-more n (k + 1) (k + 2) (a + k + 1) (b₀ * n + k + 1) c xs₀ _ ys _ h one refl p l (omega arith) (omega arith) (omega arith) (omega arith)
+  column-at : (n k i j : ℕ) (c : List ℕ) → ColumnsOf u n e c → b₀ < 256 → k < n → i ≡ a + k → j ≡ b₀ * n + k → pixels c j ≡ spread u e b₀ a i
+  column-at n k i j c h l m p q = rw (p, q) (h .at b₀ k l m ∙ spread-at (b₀ / u ^ k) k refl)
 
-  pub column-four : (n k : ℕ) (c xs₀ xs ys : List ℕ) → ColumnsOf u n e c → xs ≡ run pixelCells (given (spread u e b₀ a)) a k xs₀
-      → ys ≡ putPixel (putPixel (putPixel (putPixel xs (a + k) (pixels c (b₀ * n + k))) (a + k + 1) (pixels c (b₀ * n + k + 1))) (a + k + 2) (pixels c (b₀ * n + k + 2))) (a + k + 3) (pixels c (b₀ * n + k + 3)) → b₀ < 256
-      → k + 4 ≤ n → ys ≡ run pixelCells (given (spread u e b₀ a)) a (k + 4) xs₀
-  column-four n k c xs₀ xs ys h r p l s =
-      let two = column-two n k c xs₀ xs _ h r refl l (omega arith) in
-      let three = column-more n (k + 2) (k + 3) (a + k + 2) (b₀ * n + k + 2) c xs₀ _ _ _ h two refl refl l (omega arith) (omega arith) (omega arith) (omega arith) in
-      column-more n (k + 3) (k + 4) (a + k + 3) (b₀ * n + k + 3) c xs₀ _ ys _ h three refl p l (omega arith) (omega arith) (omega arith) (omega arith)
+  -- four columns before those that are there, and the first two
+  pub four-before : (n k j : ℕ) (c xs₀ xs ys : List ℕ) → ColumnsOf u n e c → xs ≡ run pixelCells (given (spread u e b₀ a)) (a + k) (n - k) xs₀
+      → ys ≡ putPixel (putPixel (putPixel (putPixel xs (a + j) (pixels c (b₀ * n + j))) (a + j + 1) (pixels c (b₀ * n + j + 1))) (a + j + 2) (pixels c (b₀ * n + j + 2))) (a + j + 3) (pixels c (b₀ * n + j + 3))
+      → b₀ < 256 → k ≤ n → k ≡ j + 4 → ys ≡ run pixelCells (given (spread u e b₀ a)) (a + j) (n - j) xs₀
+  four-before n k j c xs₀ xs ys h r p l m q =
+      let f = spread u e b₀ a in
+      let at = column-at n in
+      let four : ys ≡ run pixelCells (given f) (a + j) 4 xs =
+      given-four f (a + j) xs _ _ _ ys _ _ _ _ refl refl refl p (at j (a + j) (b₀ * n + j) c h l (omega arith) refl refl) (at (j + 1) (a + j + 1) (b₀ * n + j + 1) c h l (omega arith) (omega arith) (omega arith)) (at (j + 2) (a + j + 2) (b₀ * n + j + 2) c h l (omega arith) (omega arith) (omega arith)) (at (j + 3) (a + j + 3) (b₀ * n + j + 3) c h l (omega arith) (omega arith) (omega arith)) in
+      let x : a + n - (a + k) ≡ n - k = omega arith in
+      let y : a + k - (a + j) ≡ 4 = omega arith in
+      let z : a + n - (a + j) ≡ n - j = omega arith in
+      rw z at (given-join f (a + j) (a + k) (a + n) xs₀ xs ys (rw x r) (rw y four) (omega arith) (omega arith))
 
--- the columns of byte b stand after those of the bytes before it
-pub columns-room : (b n : ℕ) → b < 256 → b * n + n ≤ 256 * n
-columns-room b n l = let a = mul-le-mul-right n l in let s = suc-mul b n in omega arith
+  pub two-before : (n k : ℕ) (c xs₀ xs ys : List ℕ) → ColumnsOf u n e c → xs ≡ run pixelCells (given (spread u e b₀ a)) (a + k) (n - k) xs₀
+      → ys ≡ putPixel (putPixel xs a (pixels c (b₀ * n))) (a + 1) (pixels c (b₀ * n + 1)) → b₀ < 256 → k ≤ n → k ≡ 2 → ys ≡ run pixelCells (given (spread u e b₀ a)) a n xs₀
+  two-before n k c xs₀ xs ys h r p l m q =
+      let f = spread u e b₀ a in
+      let one = given-put f a 0 xs xs _ _ (given-none f a xs) (column-at n 0 (a + 0) (b₀ * n) c h l (omega arith) (omega arith) (omega arith)) (ap (λ (i : ℕ). putPixel xs i (pixels c (b₀ * n))) (sym (add-zero a))) in
+      let two : ys ≡ run pixelCells (given f) a 2 xs = given-put f a 1 xs _ ys _ one (column-at n 1 (a + 1) (b₀ * n + 1) c h l (omega arith) refl refl) p in
+      let x : a + n - (a + k) ≡ n - k = omega arith in
+      let y : a + k - a ≡ 2 = omega arith in
+      let z : a + n - a ≡ n = omega arith in
+      rw z at (given-join f a (a + k) (a + n) xs₀ xs ys (rw x r) (rw y two) (omega arith) (omega arith))
+
+  -- no column is there yet, or all are
+  pub columns-none : (n : ℕ) (xs : List ℕ) → xs ≡ run pixelCells (given (spread u e b₀ a)) (a + n) (n - n) xs
+  unfolding run
+  columns-none n xs = let z : n - n ≡ 0 = omega arith in rw z
+
+  pub columns-done : (n k : ℕ) (xs₀ xs : List ℕ) → xs ≡ run pixelCells (given (spread u e b₀ a)) (a + k) (n - k) xs₀ → k ≡ 0 → xs ≡ run pixelCells (given (spread u e b₀ a)) a n xs₀
+  columns-done n k xs₀ xs r q = let x : a + k ≡ a = omega arith in let y : n - k ≡ n = omega arith in rw (x, y) at r
 
 -- the columns of one byte more
 pub columns-more : (u n : ℕ) (e : Picture) (b : ℕ) (xs ys : List ℕ) → ((c k : ℕ) → c < b → k < n → pixels xs (c * n + k) ≡ e (c / u ^ k % u))
@@ -94,12 +114,8 @@ row-spread u n e g first k i l m =
 pub packed-before : (k n : ℕ) → 1 ≤ n → k ≤ k * n
 packed-before k n h = let a = mul-le-mul-left k h in let b = mul-one k in omega arith
 
--- part k - 1 of `count` parts of n pixels is inside
-pub turn-room : (k count n : ℕ) → 0 < k → k ≤ count → (k - 1) * n + n ≤ count * n
-turn-room k count n p l =
-    let s : suc (k - 1) ≡ k = omega arith in
-    let e : (k - 1) * n + n ≡ k * n = sym (suc-mul (k - 1) n) ∙ ap (λ (z : ℕ). z * n) s in
-    rw e (mul-le-mul-right n l)
+pub next-columns : (k n : ℕ) → (k + 1) * n ≡ k * n + n
+next-columns k n = let s : suc k ≡ k + 1 = omega arith in ap (λ (z : ℕ). z * n) (sym s) ∙ suc-mul k n
 
 -- a row's columns over two buffers that agree on its packed pixels
 row-same : (u n : ℕ) (e g h : Picture) (first i : ℕ) → g ((i - first) / n) ≡ h ((i - first) / n) → rowOf u n e g first i ≡ rowOf u n e h first i
@@ -140,6 +156,20 @@ module _ (u n : ℕ) (e : Picture) (first : ℕ) (pos : 1 ≤ n) where
       let z : first + count * n - (first + j * n) ≡ count * n - j * n = omega arith in
       let f : ys ≡ run pixelCells (given (Row xs₀)) (first + j * n) n xs = front-row k j (count * n - k * n) n xs₀ xs ys r q (omega arith) in
       rw z at (given-join (Row xs₀) (first + j * n) (first + k * n) (first + count * n) xs₀ xs ys (rw x r) (rw y f) (omega arith) (omega arith))
+
+  -- m columns of packed pixel k more, left to right, where the columns start behind it
+  pub onward : (k m w : ℕ) (xs₀ xs ys : List ℕ) → xs ≡ run pixelCells (given (Row xs₀)) first (k * n) xs₀ → ys ≡ run pixelCells (given (Row xs)) (first + k * n) m xs → k < first → m ≤ n → w ≡ k * n + m
+      → ys ≡ run pixelCells (given (Row xs₀)) first w xs₀
+  onward k m w xs₀ xs ys r q l t s =
+      let kept : pixels xs k ≡ pixels xs₀ k = ap (λ (zs : List ℕ). pixels zs k) r ∙ run-before pixelCells pixel-lawful (given (Row xs₀)) first xs₀ (k * n) k l in
+      let place : (i : ℕ) → first + k * n ≤ i → i < first + k * n + m → (i - first) / n ≡ k =
+      λ i f g. let d : i - first ≡ k * n + (i - (first + k * n)) = omega arith in ap (λ (z : ℕ). z / n) d ∙ digits-div k (omega arith) in
+      let f : ys ≡ run pixelCells (given (Row xs₀)) (first + k * n) m xs =
+      q ∙ given-same (Row xs) (Row xs₀) (first + k * n) xs m (λ i f g. row-same u n e (pixels xs) (pixels xs₀) first i (rw (place i f g) kept)) in
+      f ∙ rw (s, r) (run-append pixelCells (given (Row xs₀)) first xs₀ (k * n) m)
+
+  pub onward-done : (k count : ℕ) (xs₀ xs : List ℕ) → xs ≡ run pixelCells (given (Row xs₀)) first (k * n) xs₀ → k ≡ count → xs ≡ run pixelCells (given (Row xs₀)) first (count * n) xs₀
+  onward-done k count xs₀ xs r q = rw q at r
 
   -- the last packed pixel, and those before it
   pub row-whole : (k w : ℕ) (xs ys zs : List ℕ) → ys ≡ run pixelCells (given (Row xs)) (first + k * n) (w - k * n) xs → zs ≡ run pixelCells (given (Row ys)) first (k * n) ys → k * n < w
@@ -232,7 +262,7 @@ module _ (w size y : ℕ) (e : Picture) (xs : List ℕ) (some : 1 ≤ w) (fits :
 -- the rows of the picture
 
 pub row-room : (r h w m n : ℕ) → 4 * (h * w) ≤ m → n ≡ m → r < h → 4 * (r * w + w) ≤ n
-row-room r h w m n f q l = let a = mul-le-mul-right w l in let b = suc-mul r w in omega arith
+row-room r h w m n f q l = let a = row-there w h r l in omega arith
 
 module _ (w size h : ℕ) (e : Picture) (some : 1 ≤ w) where
   abbrev Whole : List ℕ → Picture

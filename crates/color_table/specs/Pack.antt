@@ -9,7 +9,7 @@ use Rattle.format.specs.declared.Pixel.{Pixel}
 use Rattle.format.specs.Choice.{if_then_else_}
 use Rattle.format.specs.Pixel.{pixel, equal}
 use Rattle.format.specs.Picture.{Picture, byteAt, pixels}
-use Rattle.format.specs.ColorTable.{perPixel, range, indexOf, accepted, digits}
+use Rattle.format.specs.ColorTable.{perPixel, range, indexOf, hasEntry, accepted, digits}
 use Rattle.pixel.specs.Cells.{pixelCells, run, given}
 
 -- every slot holds an index that is the lowest one of its entry
@@ -38,6 +38,10 @@ oneOf u v p = equal p u || equal p v
 
 abbrev pub EachOf : Pixel → Pixel → Picture → ℕ → ℕ → Type 0
 EachOf u v f i n = (k : ℕ) → k < n → oneOf u v (f (i + k)) ≡ true
+
+-- the n pixels of f from i on have entries
+abbrev pub EachHas : ℕ → Picture → Picture → ℕ → ℕ → Type 0
+EachHas size e f i n = (k : ℕ) → k < n → hasEntry size e (f (i + k)) ≡ true
 
 -- a row of w pixels that have entries, n of which go into a record; u is one more than the largest index
 pub record Row (size w n u : ℕ) (entries row : List ℕ) : Type 0 where

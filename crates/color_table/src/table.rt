@@ -3,7 +3,7 @@ use format::Pixel;
 use pixel::pixel::pixel_at;
 use pixel::pixel::put_pixel;
 ghost use mathlib.Core.Path.{_≡_};
-ghost use Prim.Native.Nat.{ℕ, _+_, _*_, _^_, _≤_};
+ghost use Prim.Native.Nat.{ℕ, _+_, _*_, _%_, _^_, _≤_};
 ghost use lib.ListN.{length};
 ghost use Rattle.format.specs.Pixel.{clear};
 ghost use Rattle.format.specs.Picture.{pixels, Picture};
@@ -14,7 +14,7 @@ ghost use Rattle.color_table.specs.Unpack.{spread};
 
 // How many indices a packed pixel holds.
 pub fn per_pixel(size: usize) -> usize
-    ensures { λ r. ⌜ (r ≡ perPixel size) × (1 ≤ r) × (r ≤ 8) ⌝ }
+    ensures { λ r. ⌜ (r ≡ perPixel size) × (1 ≤ r) × (r ≤ 8) × (r ≡ 6 → ⊥) × (size ≤ 16 → r % 2 ≡ 0) ⌝ }
 {
     if size <= 2 {
         8
@@ -62,8 +62,7 @@ fn no_entries() -> [[u8; 4]; 256]
     [[0u8; 4]; 256]
 }
 
-// Where a packed pixel holds one index, no columns are looked up.
-pub fn no_columns() -> [u8; 8192]
+fn no_columns() -> [u8; 8192]
     ensures { λ r. ⌜ length r ≡ 8192 ⌝ }
 {
     [0u8; 8192]

@@ -64,6 +64,15 @@ given-before f (suc n) a m xs =
     ∙ given-before f n a (suc m) xs
     ∙ ap (λ (k : ℕ). run pixelCells (given f) a k xs) t
 
+-- parts that lie apart, in either order
+pub given-apart : (f : Picture) (a n b m : ℕ) (xs : List ℕ) → a + n ≤ b
+    → run pixelCells (given f) a n (run pixelCells (given f) b m xs) ≡ run pixelCells (given f) b m (run pixelCells (given f) a n xs)
+unfolding run given
+given-apart f a n b zero xs l = refl
+given-apart f a n b (suc m) xs l =
+    given-after f a n (run pixelCells (given f) b m xs) (b + m) (f (b + m)) (omega arith)
+    ∙ ap (λ (ys : List ℕ). putPixel ys (b + m) (f (b + m))) (given-apart f a n b m xs l)
+
 -- rows joined: the part from a up to b before the part from b up to d
 pub given-join : (f : Picture) (a b d : ℕ) (xs ys zs : List ℕ) → ys ≡ run pixelCells (given f) b (d - b) xs → zs ≡ run pixelCells (given f) a (b - a) ys → a ≤ b → b ≤ d
     → zs ≡ run pixelCells (given f) a (d - a) xs

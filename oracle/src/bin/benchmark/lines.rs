@@ -1,6 +1,6 @@
 //! What is measured: each transform by itself, and whole chains as encoders write them.
 
-use crate::measure::{by_model, measure, Times};
+use crate::measure::{by_model, measure, Times, Way};
 use crate::pictures::{palette, Content, Pictures, COLORS};
 use oracle::given::{Given, Plan, COLOR, COLOR_TABLE, PREDICTOR, SUBTRACT_GREEN};
 use oracle::random::Xorshift;
@@ -34,14 +34,15 @@ struct Line {
     materials: u16,
 }
 
-/// Measures all lines, and prints each as it is done.
-pub fn measured(pictures: &Pictures, runs: usize) -> Vec<Measured> {
+/// Measures all lines, or those whose names have a text, and prints each as it is done.
+pub fn measured(pictures: &Pictures, way: &Way, only: Option<String>) -> Vec<Measured> {
     println!("| what | picture | Rust, ms | here, ms | ratio | storing, ms | storing/rebuilding |");
     println!("|---|---|---|---|---|---|---|");
     let mut measured = Vec::new();
-    for line in lines() {
+    let text = only.unwrap_or_default();
+    for line in lines().into_iter().filter(|line| line.name.contains(&text)) {
         for &content in line.contents() {
-            let times = line.times(pictures, content, runs);
+            let times = line.times(pictures, content, way);
             print_line(&line.name, content, &times);
             measured.push(Measured {
                 name: line.name.clone(),
@@ -138,7 +139,7 @@ impl Line {
         }
     }
 
-    fn times(&self, pictures: &Pictures, content: Content, runs: usize) -> Times {
+    fn times(&self, pictures: &Pictures, content: Content, way: &Way) -> Times {
         let mut random = Xorshift::new(0x3F84_D5B5_B547_0917);
         let given = self.given(&mut random, pictures.width, pictures.height);
         let strip = if content == Content::Random && !self.kinds.contains(&COLOR_TABLE) {
@@ -152,7 +153,7 @@ impl Line {
             let picture = colors.collect::<Vec<[u8; 4]>>().into_flattened();
             by_model(&given, &picture)
         };
-        measure(&given, &strip, runs)
+        measure(&given, &strip, way)
     }
 
     /// Modes and entries are set; the color transform's factors are any.

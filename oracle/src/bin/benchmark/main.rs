@@ -1,7 +1,9 @@
 //! Rebuilding through the exported calls beside the Rust's, and storing, on the same bytes and in
 //! one run; then single retouches. With `--quick`, small pictures and few runs: that all lines can
 //! be made and agree. With `--retouch`, retouches alone. With `--regions N`, a class map of so many
-//! regions: storing through a table costs by its changes of color.
+//! regions: storing through a table costs by its changes of color. With `--offset N`, the rebuilt
+//! buffer starts so many bytes after a cache line does. With `--only TEXT`, the lines of pictures
+//! whose names have it; no bound is judged then.
 
 #[cfg(rust_source)]
 mod bounds;
@@ -31,8 +33,11 @@ fn main() {
         println!("this is not a release build: the figures say nothing");
     }
     if !option("--retouch") {
-        measure_pictures(quick, regions());
+        measure_pictures(quick);
         println!();
+    }
+    if only().is_some() {
+        return;
     }
     let extent = if quick {
         retouches::Extent::quick()
@@ -42,17 +47,31 @@ fn main() {
     retouches::measure_all(&extent);
 }
 
+/// What stands after an option.
 #[cfg(rust_source)]
-fn regions() -> usize {
-    let mut after = std::env::args().skip_while(|argument| argument != "--regions");
-    match after.nth(1) {
-        Some(number) => number.parse().expect("a number of regions"),
-        None => pictures::REGIONS,
+fn after(name: &str) -> Option<String> {
+    std::env::args()
+        .skip_while(|argument| argument != name)
+        .nth(1)
+}
+
+#[cfg(rust_source)]
+fn number_after(name: &str, otherwise: usize) -> usize {
+    match after(name) {
+        Some(number) => number.parse().expect("a number"),
+        None => otherwise,
     }
 }
 
 #[cfg(rust_source)]
-fn measure_pictures(quick: bool, regions: usize) {
+fn only() -> Option<String> {
+    after("--only")
+}
+
+#[cfg(rust_source)]
+fn measure_pictures(quick: bool) {
+    let regions = number_after("--regions", pictures::REGIONS);
+    let offset = number_after("--offset", measure::OFFSET);
     let (width, height, runs) = if quick {
         (256, 128, 3)
     } else {
@@ -60,14 +79,19 @@ fn measure_pictures(quick: bool, regions: usize) {
     };
     let pictures = pictures::Pictures::new(width, height, regions);
     println!("{width} by {height}, median of {runs} runs or more; both sides built for release");
-    println!("class maps of {regions} regions");
+    println!(
+        "class maps of {regions} regions; the buffer starts {offset} bytes after a cache line"
+    );
     for colors in pictures::COLORS {
         let mean = pictures.mean_run(colors);
         println!("class map of {colors} colors: mean run of {mean:.1} pixels");
     }
     println!();
-    let measured = lines::measured(&pictures, runs);
+    let measured = lines::measured(&pictures, &measure::Way { runs, offset }, only());
     println!();
+    if only().is_some() {
+        return;
+    }
     if quick {
         let lines = measured.len();
         println!("{lines} lines agree; no bound is judged on so small a picture");

@@ -12,6 +12,18 @@ pub struct Times {
     pub storing: f64,
 }
 
+/// At least how many runs, and how many bytes after a cache line the rebuilt buffer starts.
+pub struct Way {
+    pub runs: usize,
+    pub offset: usize,
+}
+
+/// Where the C library puts a large block.
+pub const OFFSET: usize = 16;
+
+/// The bytes of a cache line.
+const LINE: usize = 64;
+
 /// A short call is run more often, until its runs have taken this many milliseconds together.
 const ENOUGH: f64 = 100.0;
 
@@ -19,8 +31,9 @@ const ENOUGH: f64 = 100.0;
 const MORE: usize = 9;
 
 /// Both sides have to make the same picture, and storing it has to give the model's strip.
-pub fn measure(given: &Given, strip: &[u8], runs: usize) -> Times {
-    let (rust, here, picture) = measure_rebuilding(given, strip, runs);
+pub fn measure(given: &Given, strip: &[u8], way: &Way) -> Times {
+    let runs = way.runs;
+    let (rust, here, picture) = measure_rebuilding(given, strip, way);
     let mut stored = vec![0; strip.len()];
     let mut storing = Vec::new();
     // The first run fills caches and is not counted.
@@ -39,28 +52,32 @@ pub fn measure(given: &Given, strip: &[u8], runs: usize) -> Times {
 /// The times of the Rust and those of the exported call, and the picture. The sides take turns in
 /// one buffer, which is filled anew before each run, and whichever begins a turn ends the next: so
 /// both find the same bytes in the same caches.
-fn measure_rebuilding(given: &Given, strip: &[u8], runs: usize) -> (Vec<f64>, Vec<f64>, Vec<u8>) {
+fn measure_rebuilding(given: &Given, strip: &[u8], way: &Way) -> (Vec<f64>, Vec<f64>, Vec<u8>) {
     let chain = given.valid();
-    let mut image = vec![0; chain.picture_len()];
+    let runs = way.runs;
+    let len = chain.picture_len();
+    let mut block = vec![0; len + way.offset + LINE];
+    let start = block.as_ptr().align_offset(LINE) + way.offset;
+    let image = &mut block[start..start + len];
     let (mut rust, mut here) = (Vec::new(), Vec::new());
     while here.len() <= runs || more(&here, runs) {
         let turn = here.len();
         for side in [turn, turn + 1] {
-            fill(&mut image, strip);
+            fill(image, strip);
             if side % 2 == 0 {
-                rust.push(timed(|| rebuild_by_rust(&chain, &mut image)));
+                rust.push(timed(|| rebuild_by_rust(&chain, image)));
             } else {
-                here.push(timed(|| rebuild(given, &mut image)));
+                here.push(timed(|| rebuild(given, image)));
             }
         }
     }
-    fill(&mut image, strip);
-    rebuild(given, &mut image);
+    fill(image, strip);
+    rebuild(given, image);
     let mut by_rust = vec![0; image.len()];
     fill(&mut by_rust, strip);
     rebuild_by_rust(&chain, &mut by_rust);
     assert!(image == by_rust, "not the picture that the Rust rebuilds");
-    (rust, here, image)
+    (rust, here, by_rust)
 }
 
 fn more(times: &[f64], runs: usize) -> bool {

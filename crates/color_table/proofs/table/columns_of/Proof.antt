@@ -6,7 +6,8 @@ use borrow.Author.Needs.{needs}
 use lib.ListN.{length}
 use Rattle.format.specs.Picture.{Picture, pixels}
 use Rattle.color_table.specs.Table.{TableOf}
-use Rattle.color_table.proofs.Rows.{columns-room, columns-more}
+use Rattle.pixel.proofs.Blocks.{row-there}
+use Rattle.color_table.proofs.Rows.{columns-more}
 use Rattle.color_table.proofs.table.columns_of.Statement.{statement}
 use Rattle.color_table.proofs.table.columns_of.Tie as tie
 
@@ -26,15 +27,15 @@ columns-of-spec =
     (λ c κs. search needs)
     (λ c. (omega arith, c .no-columns .ensures, (λ e h b k l m. absurd (omega arith))))
     (λ c. search needs)
-    (λ c. let s = c .before .before .before .before in let l = c .before .before .loop in omega (arith, columns-room (l .b) (s .args .n) (omega arith)))
+    (λ c. let s = c .before .before .before .before in let l = c .before .before .loop in omega (arith, row-there (s .args .n) 256 (l .b) (omega arith)))
     (λ c. omega arith)
-    (λ c κs. let s = c .before .before .before .before .before in let l = c .before .before .before .loop in let h = columns-room (l .b) (s .args .n) (omega arith) in (omega arith, omega arith, omega arith))
+    (λ c κs. let s = c .before .before .before .before .before in let l = c .before .before .before .loop in let h = row-there (s .args .n) 256 (l .b) (omega arith) in (omega arith, omega arith, omega arith))
     (λ c. omega arith)
     (λ c. omega arith)
     (λ c.
     let s = c .before .before .before .before .before .before .before in
     let l = c .before .before .before .before .before .loop in
     let p = c .before .put-indices in
-    let r = columns-room (l .b) (s .args .n) (omega arith) in
+    let r = row-there (s .args .n) 256 (l .b) (omega arith) in
     (omega arith, p .kept .0 ∙ l .inv .1, (λ e h. columns-more _ _ _ _ _ _ (l .inv .2 e h) (p .ensures e h) (omega arith))))
     (λ c e h. record { at = λ b k l m. c .before .loop .inv .2 e h b k (omega arith) m }))

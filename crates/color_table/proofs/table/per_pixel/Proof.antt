@@ -11,7 +11,7 @@ unfolding perPixel
 per-pixel-spec =
     tie.close
     (tie.spec
-    (λ c. rw (le-leb _ _ (c .if1 .taken)) (refl, omega arith, omega arith))
-    (λ c. rw (lt-leb _ _ (c .before .if1 .left), le-leb _ _ (c .if2 .taken)) (refl, omega arith, omega arith))
-    (λ c. rw (lt-leb _ _ (c .before .before .if1 .left), lt-leb _ _ (c .before .if2 .left), le-leb _ _ (c .if3 .taken)) (refl, omega arith, omega arith))
-    (λ c. rw (lt-leb _ _ (c .before .before .if1 .left), lt-leb _ _ (c .before .if2 .left), lt-leb _ _ (c .if3 .left)) (refl, omega arith, omega arith)))
+    (λ c. rw (le-leb _ _ (c .if1 .taken)) (refl, omega arith, omega arith, (λ h. omega arith), λ h. refl))
+    (λ c. rw (lt-leb _ _ (c .before .if1 .left), le-leb _ _ (c .if2 .taken)) (refl, omega arith, omega arith, (λ h. omega arith), λ h. refl))
+    (λ c. rw (lt-leb _ _ (c .before .before .if1 .left), lt-leb _ _ (c .before .if2 .left), le-leb _ _ (c .if3 .taken)) (refl, omega arith, omega arith, (λ h. omega arith), λ h. refl))
+    (λ c. rw (lt-leb _ _ (c .before .before .if1 .left), lt-leb _ _ (c .before .if2 .left), lt-leb _ _ (c .if3 .left)) (refl, omega arith, omega arith, (λ h. omega arith), λ h. absurd (omega arith))))

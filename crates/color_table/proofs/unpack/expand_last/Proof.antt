@@ -9,7 +9,8 @@ use Rattle.pixel.specs.Cells.{pixelCells, run, given}
 use Rattle.color_table.specs.Table.{ColumnsOf}
 use Rattle.color_table.specs.Unpack.{spread}
 use Rattle.pixel.proofs.Given.{given-none, given-done}
-use Rattle.color_table.proofs.Rows.{columns-room, column-more}
+use Rattle.pixel.proofs.Blocks.{row-there}
+use Rattle.color_table.proofs.Rows.{column-more}
 use Rattle.color_table.proofs.unpack.expand_last.Statement.{statement}
 use Rattle.color_table.proofs.unpack.expand_last.Tie as tie
 
@@ -27,8 +28,8 @@ expand-last-spec =
     (tie.spec
     Inv-loop
     μ-loop
-    (λ c. let s = c .before in omega (arith, columns-room (s .args .byte) (s .args .n) (omega arith)))
-    (λ c. let s = c .before in let h = columns-room (s .args .byte) (s .args .n) (omega arith) in (omega arith, refl, omega arith, (λ u e h. given-none _ _ _)))
+    (λ c. let s = c .before in omega (arith, row-there (s .args .n) 256 (s .args .byte) (omega arith)))
+    (λ c. let s = c .before in let h = row-there (s .args .n) 256 (s .args .byte) (omega arith) in (omega arith, refl, omega arith, (λ u e h. given-none _ _ _)))
     (λ c. omega arith)
     (λ c. omega arith)
     (λ c κs. omega arith)

@@ -8,7 +8,8 @@ use Rattle.format.specs.Picture.{Picture, pixels}
 use Rattle.pixel.specs.Cells.{pixelCells, run, given}
 use Rattle.color_table.specs.Table.{ColumnsOf}
 use Rattle.color_table.specs.Unpack.{rowOf}
-use Rattle.color_table.proofs.Rows.{turn-room, row-none, row-turn, row-done}
+use Rattle.pixel.proofs.Blocks.{row-there}
+use Rattle.color_table.proofs.Rows.{row-none, row-turn, row-done}
 use Rattle.color_table.proofs.unpack.unpack_pixels.Statement.{statement}
 use Rattle.color_table.proofs.unpack.unpack_pixels.Tie as tie
 
@@ -31,7 +32,7 @@ unpack-pixels-spec =
     (λ c κs.
     let l = c .before .before .loop in
     let s = c .before .before .before .before in
-    let h = turn-room (l .k) (s .args .count) (s .args .n) (omega arith) (l .inv .0) in
+    let h = row-there (s .args .n) (s .args .count) (l .k - 1) (omega arith) in
     (omega arith, omega arith, omega arith, omega arith))
     (λ c. omega arith)
     (λ c.

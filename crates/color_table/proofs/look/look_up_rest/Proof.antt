@@ -10,8 +10,8 @@ use Rattle.color_table.specs.Table.{entryIn}
 use Rattle.color_table.specs.Unpack.{looked}
 use Rattle.pixel.proofs.Cells.{run-none, run-done}
 use Rattle.color_table.proofs.Looked.{given-one, looked-next}
-use Rattle.color_table.proofs.unpack.look_up_rest.Statement.{statement}
-use Rattle.color_table.proofs.unpack.look_up_rest.Tie as tie
+use Rattle.color_table.proofs.look.look_up_rest.Statement.{statement}
+use Rattle.color_table.proofs.look.look_up_rest.Tie as tie
 
 abbrev Inv-loop : tie.InvT-loop
 Inv-loop part₀ from count table i₀ part i =

@@ -2,8 +2,8 @@
 use native.Mathlib.Nat.{mod-eq-of-lt}
 use borrow.Author.Needs.{needs}
 use Rattle.color_table.specs.Unpack.{looked}
-use Rattle.color_table.proofs.unpack.look_up.Statement.{statement}
-use Rattle.color_table.proofs.unpack.look_up.Tie as tie
+use Rattle.color_table.proofs.look.look_up.Statement.{statement}
+use Rattle.color_table.proofs.look.look_up.Tie as tie
 
 pub look-up-spec : {M : Type 1} → statement M
 unfolding looked

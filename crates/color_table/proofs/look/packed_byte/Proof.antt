@@ -4,8 +4,8 @@ use Prim.Native.Nat.{_+_, _*_}
 use native.Mathlib.Omega.{arith}
 use borrow.Author.Needs.{needs}
 use Rattle.format.specs.Picture.{pixels}
-use Rattle.color_table.proofs.unpack.packed_byte.Statement.{statement}
-use Rattle.color_table.proofs.unpack.packed_byte.Tie as tie
+use Rattle.color_table.proofs.look.packed_byte.Statement.{statement}
+use Rattle.color_table.proofs.look.packed_byte.Tie as tie
 
 pub packed-byte-spec : {M : Type 1} → statement M
 unfolding pixels

@@ -2,11 +2,11 @@
 use mathlib.Core.List.{List}
 use mathlib.Core.Path.{_≡_, sym, ap, _∙_}
 use Prim.Native.Nat.{ℕ, _+_, _-_, _*_, _%_, _<_, _≤_}
-use native.Mathlib.Nat.{add-zero, zero-add, div-one, mod-one, div-add-mod', mod-lt, mod-eq-of-lt}
+use native.Mathlib.Nat.{add-zero, zero-add, add-mul, div-one, mod-one, div-add-mod', mod-lt, mod-eq-of-lt}
 use native.Mathlib.Omega.{arith}
 use borrow.Author.Tests.{lt-leb}
 use lib.Dec.{leb}
-use lib.ListN.{length, take, drop}
+use lib.ListN.{length}
 use Rattle.format.specs.declared.Pixel.{Pixel}
 use Rattle.format.specs.Picture.{Picture, pixels}
 use Rattle.format.specs.ColorTable.{perPixel, entry, unpacked}
@@ -15,7 +15,9 @@ use Rattle.pixel.proofs.Cells.{pixel-lawful, run-before, run-after, run-append}
 use Rattle.color_table.specs.Table.{entryIn, TableOf}
 use Rattle.color_table.specs.Unpack.{looked}
 use Rattle.pixel.proofs.Given.{given-same, given-apart}
-use Rattle.pixel.proofs.Part.{back, part-run, pixel-part}
+use Rattle.pixel.proofs.Blocks.{row-there}
+use Rattle.pixel.proofs.Part.{back, part, part-back, pixels-part}
+use Rattle.color_table.proofs.Rows.{next-columns}
 
 pub given-one : (f : Picture) (i : ℕ) (xs ys : List ℕ) (v : Pixel) → v ≡ f i → ys ≡ putPixel xs i v → ys ≡ run pixelCells (given f) i 1 xs
 unfolding run given
@@ -50,30 +52,53 @@ looked-next e a i k m l xs₀ xs ys r q s t =
     let same : ys ≡ run pixelCells (given f) i m xs = q ∙ given-same (looked e (pixels xs)) f i xs m (λ j u v. ap (λ (p : Pixel). e (p .green % 256)) (kept j u)) in
     same ∙ rw (s, t, r) (run-append pixelCells (given f) a xs₀ k m)
 
--- four pixels more of each of two parts, from 0 and from h on
-pub looked-both : (e : Picture) (h i : ℕ) (xs₀ xs ys zs : List ℕ)
+-- m pixels more of each of two parts, from 0 and from h on
+looked-both : (e : Picture) (h i m : ℕ) (xs₀ xs ys zs : List ℕ)
     → xs ≡ run pixelCells (given (looked e (pixels xs₀))) h i (run pixelCells (given (looked e (pixels xs₀))) 0 i xs₀)
-    → ys ≡ run pixelCells (given (looked e (pixels xs))) i 4 xs → zs ≡ run pixelCells (given (looked e (pixels ys))) (h + i) 4 ys → i + 4 ≤ h
-    → zs ≡ run pixelCells (given (looked e (pixels xs₀))) h (i + 4) (run pixelCells (given (looked e (pixels xs₀))) 0 (i + 4) xs₀)
+    → ys ≡ run pixelCells (given (looked e (pixels xs))) i m xs → zs ≡ run pixelCells (given (looked e (pixels ys))) (h + i) m ys → i + m ≤ h
+    → zs ≡ run pixelCells (given (looked e (pixels xs₀))) h (i + m) (run pixelCells (given (looked e (pixels xs₀))) 0 (i + m) xs₀)
 unfolding looked
-looked-both e h i xs₀ xs ys zs r p q l =
+looked-both e h i m xs₀ xs ys zs r p q l =
     let f = looked e (pixels xs₀) in
     let front = run pixelCells (given f) 0 i xs₀ in
     let kept : (j : ℕ) → i ≤ j → j < h → pixels xs j ≡ pixels xs₀ j =
     λ j a b. ap (λ (us : List ℕ). pixels us j) r ∙ run-before pixelCells pixel-lawful (given f) h front i j b ∙ run-after pixelCells pixel-lawful (given f) 0 xs₀ i j (omega arith) in
-    let p' : ys ≡ run pixelCells (given f) i 4 xs = p ∙ given-same (looked e (pixels xs)) f i xs 4 (λ j a b. ap (λ (v : Pixel). e (v .green % 256)) (kept j a (omega arith))) in
+    let p' : ys ≡ run pixelCells (given f) i m xs = p ∙ given-same (looked e (pixels xs)) f i xs m (λ j a b. ap (λ (v : Pixel). e (v .green % 256)) (kept j a (omega arith))) in
     let far : (j : ℕ) → h + i ≤ j → pixels ys j ≡ pixels xs₀ j =
-    λ j a. ap (λ (us : List ℕ). pixels us j) p' ∙ run-after pixelCells pixel-lawful (given f) i xs 4 j (omega arith) ∙ ap (λ (us : List ℕ). pixels us j) r
+    λ j a. ap (λ (us : List ℕ). pixels us j) p' ∙ run-after pixelCells pixel-lawful (given f) i xs m j (omega arith) ∙ ap (λ (us : List ℕ). pixels us j) r
     ∙ run-after pixelCells pixel-lawful (given f) h front i j a ∙ run-after pixelCells pixel-lawful (given f) 0 xs₀ i j (omega arith) in
-    let q' : zs ≡ run pixelCells (given f) (h + i) 4 ys = q ∙ given-same (looked e (pixels ys)) f (h + i) ys 4 (λ j a b. ap (λ (v : Pixel). e (v .green % 256)) (far j a)) in
-    let swap : ys ≡ run pixelCells (given f) h i (run pixelCells (given f) i 4 front) = p' ∙ ap (run pixelCells (given f) i 4) r ∙ given-apart f i 4 h i front l in
-    let near : run pixelCells (given f) i 4 front ≡ run pixelCells (given f) 0 (i + 4) xs₀ = rw (zero-add i) at (run-append pixelCells (given f) 0 xs₀ i 4) in
-    q' ∙ ap (run pixelCells (given f) (h + i) 4) (swap ∙ ap (run pixelCells (given f) h i) near) ∙ run-append pixelCells (given f) h (run pixelCells (given f) 0 (i + 4) xs₀) i 4
+    let q' : zs ≡ run pixelCells (given f) (h + i) m ys = q ∙ given-same (looked e (pixels ys)) f (h + i) ys m (λ j a b. ap (λ (v : Pixel). e (v .green % 256)) (far j a)) in
+    let swap : ys ≡ run pixelCells (given f) h i (run pixelCells (given f) i m front) = p' ∙ ap (run pixelCells (given f) i m) r ∙ given-apart f i m h i front l in
+    let near : run pixelCells (given f) i m front ≡ run pixelCells (given f) 0 (i + m) xs₀ = rw (zero-add i) at (run-append pixelCells (given f) 0 xs₀ i m) in
+    q' ∙ ap (run pixelCells (given f) (h + i) m) (swap ∙ ap (run pixelCells (given f) h i) near) ∙ run-append pixelCells (given f) h (run pixelCells (given f) 0 (i + m) xs₀) i m
 
--- both parts are there
-pub looked-whole : (e : Picture) (h i : ℕ) (xs₀ xs : List ℕ) → xs ≡ run pixelCells (given (looked e (pixels xs₀))) h i (run pixelCells (given (looked e (pixels xs₀))) 0 i xs₀) → i ≡ h
-    → xs ≡ run pixelCells (given (looked e (pixels xs₀))) 0 (h + h) xs₀
-looked-whole e h i xs₀ xs r q = (rw q at r) ∙ (rw (zero-add h) at (run-append pixelCells (given (looked e (pixels xs₀))) 0 xs₀ h h))
+-- rows
+
+module _ (e : Picture) (w : ℕ) where
+  -- a row in its part of the picture, which comes back as ys
+  pub looked-lent : (y : ℕ) (xs ys : List ℕ) → ys ≡ run pixelCells (given (looked e (pixels (part (y * w) w xs)))) 0 w (part (y * w) w xs) → 4 * (y * w) + 4 * w ≤ length xs
+      → back (4 * (y * w)) (4 * (y * w) + 4 * w - 4 * (y * w)) xs ys ≡ run pixelCells (given (looked e (pixels xs))) (y * w) w xs
+  unfolding looked given
+  looked-lent y xs ys r fits =
+      part-back (given (looked e (pixels xs))) (given (looked e (pixels (part (y * w) w xs)))) (y * w) w xs ys r (λ p q i l u h. ap (λ (v : Pixel). e (v .green % 256)) (sym (pixels-part (y * w) w xs fits i (omega arith)))) fits
+
+  -- a row more of each half
+  pub looked-rows : (half y : ℕ) (xs₀ xs ys zs : List ℕ)
+      → xs ≡ run pixelCells (given (looked e (pixels xs₀))) (half * w) (y * w) (run pixelCells (given (looked e (pixels xs₀))) 0 (y * w) xs₀)
+      → ys ≡ run pixelCells (given (looked e (pixels xs))) (y * w) w xs → zs ≡ run pixelCells (given (looked e (pixels ys))) ((half + y) * w) w ys → y < half
+      → zs ≡ run pixelCells (given (looked e (pixels xs₀))) (half * w) ((y + 1) * w) (run pixelCells (given (looked e (pixels xs₀))) 0 ((y + 1) * w) xs₀)
+  looked-rows half y xs₀ xs ys zs r p q l =
+      rw (next-columns y w) (looked-both e (half * w) (y * w) w xs₀ xs ys zs r p (rw (add-mul half y w) at q) (row-there w half y l))
+
+  -- both halves are there, and the row after them where the height is odd
+  pub looked-halves : (half y h : ℕ) (xs₀ xs : List ℕ) → xs ≡ run pixelCells (given (looked e (pixels xs₀))) (half * w) (y * w) (run pixelCells (given (looked e (pixels xs₀))) 0 (y * w) xs₀)
+      → y ≡ half → h ≡ half + half → xs ≡ run pixelCells (given (looked e (pixels xs₀))) 0 (h * w) xs₀
+  looked-halves half y h xs₀ xs r q s =
+      rw (s, add-mul half half w) ((rw q at r) ∙ (rw (zero-add (half * w)) at (run-append pixelCells (given (looked e (pixels xs₀))) 0 xs₀ (half * w) (half * w))))
+
+  pub looked-odd : (half h : ℕ) (xs₀ xs ys : List ℕ) → xs ≡ run pixelCells (given (looked e (pixels xs₀))) 0 ((half + half) * w) xs₀ → ys ≡ run pixelCells (given (looked e (pixels xs))) ((half + half) * w) w xs
+      → h ≡ half + half + 1 → ys ≡ run pixelCells (given (looked e (pixels xs₀))) 0 (h * w) xs₀
+  looked-odd half h xs₀ xs ys r q s = rw s (looked-next e 0 ((half + half) * w) ((half + half) * w) w ((half + half + 1) * w) xs₀ xs ys r q (omega arith) (next-columns (half + half) w))
 
 one-index : (size : ℕ) → 16 < size → perPixel size ≡ 1
 unfolding perPixel
@@ -90,22 +115,7 @@ looked-at w size e g t i h l =
     let b : g i .green % 256 < 256 = mod-lt (g i .green) {m = 256} (omega arith) in
     rw (one-index size l, div-one (w + 1 - 1), div-one (i % w), mod-one (i % w), k, div-add-mod' i w, div-one (g i .green)) (h .at (g i .green % 256) b)
 
--- the picture's part of the buffer, lent as one row
-looked-lent : (e : Picture) (n : ℕ) (xs ys : List ℕ) → ys ≡ run pixelCells (given (looked e (pixels (take (4 * n - 0) (drop 0 xs))))) 0 n (take (4 * n - 0) (drop 0 xs)) → 4 * n ≤ length xs
-    → back 0 (4 * n - 0) xs ys ≡ run pixelCells (given (looked e (pixels xs))) 0 n xs
-unfolding looked given
-looked-lent e n xs ys r fits =
-    let k : 4 * n - 0 ≡ 4 * n = omega arith in
-    let f = looked e (pixels xs) in
-    let part = take (4 * n) (drop 0 xs) in
-    let same : run pixelCells (given (looked e (pixels part))) 0 n part ≡ run pixelCells (given f) 0 n part =
-    given-same (looked e (pixels part)) f 0 part n (λ i l u. ap (λ (v : Pixel). e (v .green % 256)) (pixel-part 0 (4 * n) xs (omega arith) i (omega arith) ∙ ap (pixels xs) (zero-add i))) in
-    let s : ys ≡ run pixelCells (given f) 0 n part = (rw k at r) ∙ same in
-    rw (k, s) (part-run (given f) (given f) 0 n 0 xs (omega arith) n (omega arith) (λ p q i l u h. ap f (zero-add i)))
-
 -- the whole picture
-pub looked-all : (w size : ℕ) (e : Picture) (t : List (List ℕ)) → TableOf 256 (entry size e) t → 16 < size → (n : ℕ) (xs ys : List ℕ)
-    → ys ≡ run pixelCells (given (looked (entryIn t) (pixels (take (4 * n - 0) (drop 0 xs))))) 0 n (take (4 * n - 0) (drop 0 xs)) → 4 * n ≤ length xs
-    → back 0 (4 * n - 0) xs ys ≡ run pixelCells (given (unpacked w size e (pixels xs))) 0 n xs
-looked-all w size e t h l n xs ys r fits =
-    looked-lent (entryIn t) n xs ys r fits ∙ given-same (looked (entryIn t) (pixels xs)) (unpacked w size e (pixels xs)) 0 xs n (λ i f u. looked-at w size e (pixels xs) t i h l)
+pub looked-all : (w size : ℕ) (e : Picture) (t : List (List ℕ)) → TableOf 256 (entry size e) t → 16 < size → (n : ℕ) (xs ys : List ℕ) → ys ≡ run pixelCells (given (looked (entryIn t) (pixels xs))) 0 n xs
+    → ys ≡ run pixelCells (given (unpacked w size e (pixels xs))) 0 n xs
+looked-all w size e t h l n xs ys r = r ∙ given-same (looked (entryIn t) (pixels xs)) (unpacked w size e (pixels xs)) 0 xs n (λ i f u. looked-at w size e (pixels xs) t i h l)

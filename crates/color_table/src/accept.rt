@@ -83,7 +83,7 @@ fn eight_first(row: &[u8], i: usize, entries: &[u8], size: usize, hints: &[u8]) 
     all
 }
 
-// The same of the group from i on, where a has an entry. Most groups are the pixel before them, a, or that and one color more: one branch for both, so that
+// Whether each of the first i + 16 pixels has an entry, where those before i have and a has one. Most groups are the pixel before them, a, or that and one color more: one branch for both, so that
 // a change of color is not mispredicted.
 fn accept_group(row: &[u8], i: usize, a: u32, entries: &[u8], size: usize, hints: &[u8]) -> bool
     requires { ⌜ Table size (now entries) (now hints) ⌝ }
@@ -102,7 +102,7 @@ fn accept_group(row: &[u8], i: usize, a: u32, entries: &[u8], size: usize, hints
     accept_each(row, i, i + 16, entries, size, hints)
 }
 
-// The same from the first pixel on, by groups. At first those of two entries are passed, so that pictures of tables of two are never looked up.
+// The same from the first pixel on, by groups. At first those of two entries are passed, so that no group of a picture of two colors is looked up.
 fn accept_groups(row: &[u8], count: usize, entries: &[u8], size: usize, hints: &[u8]) -> bool
     requires { ⌜ Table size (now entries) (now hints) ⌝ }
     requires { ⌜ (count % 16 ≡ 0) × (4 * count ≤ length (now row)) ⌝ }

@@ -63,7 +63,7 @@ fn flat_record(
     record_of(b)
 }
 
-// Four records from j on, stored when all are known: a store could change the row, for all that the compiler knows.
+// Four records from j on, stored when all are known: the compiler has to assume that a store changes the row.
 fn store_four(out: &mut [u8], j: usize, a: u32, b: u32, c: u32, d: u32)
     requires { ⌜ 4 * (j + 4) ≤ length (now out) ⌝ }
     ensures { λ _. ⌜ ((f : Picture) → unword a ≡ f j → unword b ≡ f (j + 1) → unword c ≡ f (j + 2) → unword d ≡ f (j + 3) → now (out .exit) ≡ run pixelCells (given f) j 4 (now (out .entry))) ⌝ }

@@ -1,4 +1,4 @@
-// Unpacking where a packed pixel holds one index. Pixels stay where they are, so that a row, which may be the whole picture, is done from the left.
+// A row whose packed pixels hold one index each. They stay where they are, so that it is done from the left.
 use crate::table::entry_at;
 use format::Pixel;
 use pixel::pixel::put_pixel;
@@ -53,16 +53,16 @@ fn look_up_four(part: &mut [u8], i: usize, table: &[[u8; 4]; 256])
     put_entries(part, i, p, q, r, s, table);
 }
 
-// Four pixels of each half a turn: memory is read and written faster in two places by turns than in one.
-fn look_up_halves(part: &mut [u8], half: usize, table: &[[u8; 4]; 256])
-    requires { ⌜ (half % 4 ≡ 0) × (4 * (half + half) ≤ length (now part)) ⌝ }
-    ensures { λ _. ⌜ now (part .exit) ≡ run pixelCells (given (looked (entryIn (now (table .entry))) (pixels (now (part .entry))))) 0 (half + half) (now (part .entry)) ⌝ }
+// Eight a turn.
+fn look_up_eights(part: &mut [u8], count: usize, table: &[[u8; 4]; 256])
+    requires { ⌜ (count % 8 ≡ 0) × (4 * count ≤ length (now part)) ⌝ }
+    ensures { λ _. ⌜ now (part .exit) ≡ run pixelCells (given (looked (entryIn (now (table .entry))) (pixels (now (part .entry))))) 0 count (now (part .entry)) ⌝ }
 {
     let mut i = 0;
-    while i < half {
+    while i < count {
         look_up_four(part, i, table);
-        look_up_four(part, half + i, table);
-        i += 4;
+        look_up_four(part, i + 4, table);
+        i += 8;
     }
 }
 
@@ -82,7 +82,7 @@ pub fn look_up_row(part: &mut [u8], width: usize, table: &[[u8; 4]; 256])
     requires { ⌜ 4 * width ≤ length (now part) ⌝ }
     ensures { λ _. ⌜ now (part .exit) ≡ run pixelCells (given (looked (entryIn (now (table .entry))) (pixels (now (part .entry))))) 0 width (now (part .entry)) ⌝ }
 {
-    let half = width / 8 * 4;
-    look_up_halves(part, half, table);
-    look_up_rest(part, half + half, width, table);
+    let whole = width / 8 * 8;
+    look_up_eights(part, whole, table);
+    look_up_rest(part, whole, width, table);
 }

@@ -1,4 +1,4 @@
-// One record's transform of one row, which stands in the scratch `row`. `rows` holds the row above where the predictor wants it; its second half is free.
+// One record's transform of one row, which stands in the scratch `row`. `rows` holds the row above where the predictor needs it; its second half is free.
 use crate::rows::copy_pixels;
 use crate::rows::move_up;
 use color_table::pack::pack_row;

@@ -174,7 +174,7 @@ fn store_steps(
     }
 }
 
-// A valid chain whose buffers have room. A table alone wants no scratch rows.
+// A valid chain whose buffers have room. A table alone needs no scratch rows.
 fn store_valid(
     read: Chain,
     width: usize,

@@ -1,4 +1,4 @@
--- `look_up_row` meets its contract: the halves, and the rest after them.
+-- `look_up_row` meets its contract: the eights, and the rest after them.
 use native.Mathlib.Omega.{arith}
 use borrow.Author.Needs.{needs}
 use Rattle.color_table.proofs.Looked.{looked-next}
@@ -11,7 +11,6 @@ look-up-row-spec =
     (tie.spec
     (λ c. search needs)
     (λ c κs. search needs)
-    (λ c. search needs)
     (λ c κs. search needs)
     (λ c. search needs)
-    (λ c. looked-next _ _ _ _ _ _ _ _ _ (c .before .before .before .before .before .before .look-up-halves .ensures) (c .before .before .look-up-rest .ensures) (omega arith) (omega arith)))
+    (λ c. looked-next _ _ _ _ _ _ _ _ _ (c .before .before .before .before .before .before .look-up-eights .ensures) (c .before .before .look-up-rest .ensures) (omega arith) (omega arith)))

@@ -1,9 +1,5 @@
 -- `apply_color_indexing_transform` meets its contract: both ways write the unpacked pixels.
 use mathlib.Core.Path.{_∙_}
-use mathlib.Core.List.{List}
-use Prim.Native.Nat.{ℕ, _-_, _*_, _≤_}
-use lib.ListN.{length, take, drop}
-use lib.Seq.{length-take-le}
 use native.Mathlib.Omega.{arith}
 use borrow.Author.Needs.{needs}
 use Rattle.pixel.proofs.Given.{given-written}
@@ -11,10 +7,6 @@ use Rattle.color_table.proofs.Looked.{looked-all}
 use Rattle.color_table.proofs.Rows.{table-part}
 use Rattle.color_table.proofs.unpack.apply_color_indexing_transform.Statement.{statement}
 use Rattle.color_table.proofs.unpack.apply_color_indexing_transform.Tie as tie
-
--- the picture fills its part
-whole : (n : ℕ) (xs : List ℕ) → 4 * n ≤ length xs → 4 * n ≤ length (take (4 * n - 0) (drop 0 xs))
-whole n xs fits = let t = length-take-le (4 * n - 0) (drop 0 xs) (omega arith) in omega arith
 
 pub apply-color-indexing-transform-spec : {M : Type 1} → statement M
 apply-color-indexing-transform-spec =
@@ -25,12 +17,7 @@ apply-color-indexing-transform-spec =
     (λ c κs. omega arith)
     (λ c κs. let i = c .index-range .ensures in (c .before .per-pixel .ensures .2, i .1, i .5 (c .before .before .if1 .taken)))
     (λ c κs. search needs)
-    (λ c. search needs)
-    (λ c. search needs)
-    (λ c. search needs)
-    (λ c. search needs)
-    (λ c. search needs)
-    (λ c κs. whole _ _ (c .before .before .before .before .before .before .pre .1 .0))
+    (λ c κs. search needs)
     (λ c. search needs)
     (λ c.
     let i = c .before .before .before .before .before .before .index-range .ensures in
@@ -38,4 +25,4 @@ apply-color-indexing-transform-spec =
     let h = c .before .before .before .before .before .columns-of .ensures _ (table-part _ _ _ (c .before .before .before .before .before .before .before .before .before .padded .ensures) (i .5 (c .before .before .before .before .before .before .before .before .if1 .taken))) in
     c .before .before .unpack-rows .ensures _ (rw (← i .0, ← n .0) h) ∙ given-written _ _ _ (c .before .before .before .before .before .before .before .before .before .before .before .before .pre .1 .0))
     (λ c. search needs)
-    (λ c. looked-all _ _ _ _ (c .before .before .before .before .before .before .padded .ensures) (omega arith) _ _ _ (c .before .before .look-up-row .ensures) (c .before .before .before .before .before .before .before .before .before .pre .1 .0) ∙ given-written _ _ _ (c .before .before .before .before .before .before .before .before .before .pre .1 .0)))
+    (λ c. looked-all _ _ _ _ (c .before .before .before .before .before .before .padded .ensures) (omega arith) _ _ _ (c .before .before .look-up-rows .ensures) ∙ given-written _ _ _ (c .before .before .before .before .before .before .before .before .before .pre .1 .0)))

@@ -1,22 +1,23 @@
 -- Packed pixels of one index each.
 use mathlib.Core.List.{List}
-use mathlib.Core.Path.{_≡_, sym, ap, _∙_}
-use Prim.Native.Nat.{ℕ, _+_, _-_, _*_, _%_, _<_, _≤_}
-use native.Mathlib.Nat.{add-zero, zero-add, add-mul, div-one, mod-one, div-add-mod', mod-lt, mod-eq-of-lt}
+use mathlib.Core.Path.{_≡_, refl, sym, ap, _∙_}
+use Prim.Native.Nat.{ℕ, zero, suc, _+_, _-_, _*_, _%_, _<_, _≤_}
+use native.Mathlib.Nat.{add-zero, zero-add, add-assoc, add-mul, div-one, mod-one, div-add-mod', mod-lt, mod-eq-of-lt}
 use native.Mathlib.Omega.{arith}
 use borrow.Author.Tests.{lt-leb}
 use lib.Dec.{leb}
-use lib.ListN.{length}
+use lib.ListN.{length, drop, length-drop, take-append-drop}
+use lib.Seq.{length-take-le}
 use Rattle.format.specs.declared.Pixel.{Pixel}
 use Rattle.format.specs.Picture.{Picture, pixels}
 use Rattle.format.specs.ColorTable.{perPixel, entry, unpacked}
 use Rattle.pixel.specs.Cells.{pixelCells, putPixel, run, given}
-use Rattle.pixel.proofs.Cells.{pixel-lawful, run-before, run-after, run-append}
+use Rattle.pixel.proofs.Cells.{pixel-lawful, length-run, run-before, run-after, run-append}
 use Rattle.color_table.specs.Table.{entryIn, TableOf}
 use Rattle.color_table.specs.Unpack.{looked}
 use Rattle.pixel.proofs.Given.{given-same, given-apart}
 use Rattle.pixel.proofs.Blocks.{row-there}
-use Rattle.pixel.proofs.Part.{back, part, part-back, pixels-part}
+use Rattle.pixel.proofs.Part.{back, part, part-back, put-back, pixels-part}
 use Rattle.color_table.proofs.Rows.{next-columns}
 
 pub given-one : (f : Picture) (i : ℕ) (xs ys : List ℕ) (v : Pixel) → v ≡ f i → ys ≡ putPixel xs i v → ys ≡ run pixelCells (given f) i 1 xs
@@ -53,7 +54,7 @@ looked-next e a i k m l xs₀ xs ys r q s t =
     same ∙ rw (s, t, r) (run-append pixelCells (given f) a xs₀ k m)
 
 -- m pixels more of each of two parts, from 0 and from h on
-looked-both : (e : Picture) (h i m : ℕ) (xs₀ xs ys zs : List ℕ)
+pub looked-both : (e : Picture) (h i m : ℕ) (xs₀ xs ys zs : List ℕ)
     → xs ≡ run pixelCells (given (looked e (pixels xs₀))) h i (run pixelCells (given (looked e (pixels xs₀))) 0 i xs₀)
     → ys ≡ run pixelCells (given (looked e (pixels xs))) i m xs → zs ≡ run pixelCells (given (looked e (pixels ys))) (h + i) m ys → i + m ≤ h
     → zs ≡ run pixelCells (given (looked e (pixels xs₀))) h (i + m) (run pixelCells (given (looked e (pixels xs₀))) 0 (i + m) xs₀)
@@ -72,7 +73,27 @@ looked-both e h i m xs₀ xs ys zs r p q l =
     let near : run pixelCells (given f) i m front ≡ run pixelCells (given f) 0 (i + m) xs₀ = rw (zero-add i) at (run-append pixelCells (given f) 0 xs₀ i m) in
     q' ∙ ap (run pixelCells (given f) (h + i) m) (swap ∙ ap (run pixelCells (given f) h i) near) ∙ run-append pixelCells (given f) h (run pixelCells (given f) 0 (i + m) xs₀) i m
 
+pub looked-same : (e : Picture) (h i n : ℕ) (xs₀ xs : List ℕ) → xs ≡ run pixelCells (given (looked e (pixels xs₀))) h i (run pixelCells (given (looked e (pixels xs₀))) 0 i xs₀) → i ≡ n
+    → xs ≡ run pixelCells (given (looked e (pixels xs₀))) h n (run pixelCells (given (looked e (pixels xs₀))) 0 n xs₀)
+looked-same e h i n xs₀ xs r q = rw q at r
+
 -- rows
+
+-- f from index a on
+unfoldable shifted : Picture → ℕ → Picture
+shifted f a i = f (a + i)
+
+-- pixels replaced in a part are pixels replaced in the whole
+back-run : (f : Picture) (a k : ℕ) (xs z : List ℕ) → 4 * a + k ≤ length xs → length z ≡ k → (b n : ℕ) → 4 * (b + n) ≤ k
+    → back (4 * a) k xs (run pixelCells (given (shifted f a)) b n z) ≡ run pixelCells (given f) (a + b) n (back (4 * a) k xs z)
+unfolding run given shifted
+back-run f a k xs z fits full b zero l = refl
+back-run f a k xs z fits full b (suc n) l =
+    let r = back-run f a k xs z fits full b n (omega arith) in
+    let u = run pixelCells (given (shifted f a)) b n z in
+    let long : length u ≡ k = length-run pixelCells pixel-lawful (given (shifted f a)) b z n ∙ full in
+    let j = add-assoc a b n in
+    sym (put-back a k xs fits u long (b + n) (f (a + (b + n))) (omega arith)) ∙ cc
 
 module _ (e : Picture) (w : ℕ) where
   -- a row in its part of the picture, which comes back as ys
@@ -82,13 +103,44 @@ module _ (e : Picture) (w : ℕ) where
   looked-lent y xs ys r fits =
       part-back (given (looked e (pixels xs))) (given (looked e (pixels (part (y * w) w xs)))) (y * w) w xs ys r (λ p q i l u h. ap (λ (v : Pixel). e (v .green % 256)) (sym (pixels-part (y * w) w xs fits i (omega arith)))) fits
 
+  -- two rows in their part, which comes back as zs
+  pub looked-lent-pair : (y far : ℕ) (xs zs : List ℕ)
+      → zs ≡ run pixelCells (given (looked e (pixels (part (y * w) (far + w) xs)))) far w (run pixelCells (given (looked e (pixels (part (y * w) (far + w) xs)))) 0 w (part (y * w) (far + w) xs))
+      → 4 * (y * w) + 4 * (far + w) ≤ length xs
+      → back (4 * (y * w)) (4 * (y * w) + 4 * (far + w) - 4 * (y * w)) xs zs ≡ run pixelCells (given (looked e (pixels xs))) (y * w + far) w (run pixelCells (given (looked e (pixels xs))) (y * w) w xs)
+  unfolding looked shifted
+  looked-lent-pair y far xs zs r fits =
+      let a = y * w in
+      let m = far + w in
+      let k : 4 * a + 4 * m - 4 * a ≡ 4 * m = omega arith in
+      let F = looked e (pixels xs) in
+      let P = part a m xs in
+      let G = looked e (pixels P) in
+      let full : length P ≡ 4 * a + 4 * m - 4 * a = length-take-le (4 * a + 4 * m - 4 * a) (drop (4 * a) xs) (rw (length-drop (4 * a) xs) (omega arith)) in
+      let same : (i : ℕ) → i < m → G i ≡ shifted F a i = λ i l. ap (λ (v : Pixel). e (v .green % 256)) (pixels-part a m xs fits i l) in
+      let near : run pixelCells (given G) 0 w P ≡ run pixelCells (given (shifted F a)) 0 w P = given-same G (shifted F a) 0 P w (λ i l u. same i (omega arith)) in
+      let both : zs ≡ run pixelCells (given (shifted F a)) far w (run pixelCells (given (shifted F a)) 0 w P) =
+      r ∙ ap (run pixelCells (given G) far w) near ∙ given-same G (shifted F a) far (run pixelCells (given (shifted F a)) 0 w P) w (λ i l u. same i (omega arith)) in
+      let long : length (run pixelCells (given (shifted F a)) 0 w P) ≡ 4 * a + 4 * m - 4 * a = length-run pixelCells pixel-lawful (given (shifted F a)) 0 P w ∙ full in
+      let one = back-run F a (4 * a + 4 * m - 4 * a) xs P (omega arith) full 0 w (omega arith) in
+      let two = back-run F a (4 * a + 4 * m - 4 * a) xs (run pixelCells (given (shifted F a)) 0 w P) (omega arith) long far w (omega arith) in
+      let whole : back (4 * a) (4 * a + 4 * m - 4 * a) xs P ≡ xs = rw (take-append-drop, take-append-drop) in
+      ap (back (4 * a) (4 * a + 4 * m - 4 * a) xs) both ∙ two ∙ ap (run pixelCells (given F) (a + far) w) (one ∙ rw (add-zero a, whole))
+
   -- a row more of each half
-  pub looked-rows : (half y : ℕ) (xs₀ xs ys zs : List ℕ)
+  pub looked-rows : (half y : ℕ) (xs₀ xs zs : List ℕ)
       → xs ≡ run pixelCells (given (looked e (pixels xs₀))) (half * w) (y * w) (run pixelCells (given (looked e (pixels xs₀))) 0 (y * w) xs₀)
-      → ys ≡ run pixelCells (given (looked e (pixels xs))) (y * w) w xs → zs ≡ run pixelCells (given (looked e (pixels ys))) ((half + y) * w) w ys → y < half
+      → zs ≡ run pixelCells (given (looked e (pixels xs))) ((half + y) * w) w (run pixelCells (given (looked e (pixels xs))) (y * w) w xs) → y < half
       → zs ≡ run pixelCells (given (looked e (pixels xs₀))) (half * w) ((y + 1) * w) (run pixelCells (given (looked e (pixels xs₀))) 0 ((y + 1) * w) xs₀)
-  looked-rows half y xs₀ xs ys zs r p q l =
-      rw (next-columns y w) (looked-both e (half * w) (y * w) w xs₀ xs ys zs r p (rw (add-mul half y w) at q) (row-there w half y l))
+  unfolding looked
+  looked-rows half y xs₀ xs zs r q l =
+      let room = row-there w half y l in
+      let f = looked e (pixels xs) in
+      let ys = run pixelCells (given f) (y * w) w xs in
+      let q' : zs ≡ run pixelCells (given f) (half * w + y * w) w ys = rw (add-mul half y w) at q in
+      let again : zs ≡ run pixelCells (given (looked e (pixels ys))) (half * w + y * w) w ys =
+      q' ∙ given-same f (looked e (pixels ys)) (half * w + y * w) ys w (λ j a b. ap (λ (v : Pixel). e (v .green % 256)) (sym (run-after pixelCells pixel-lawful (given f) (y * w) xs w j (omega arith)))) in
+      rw (next-columns y w) (looked-both e (half * w) (y * w) w xs₀ xs ys zs r refl again room)
 
   -- both halves are there, and the row after them where the height is odd
   pub looked-halves : (half y h : ℕ) (xs₀ xs : List ℕ) → xs ≡ run pixelCells (given (looked e (pixels xs₀))) (half * w) (y * w) (run pixelCells (given (looked e (pixels xs₀))) 0 (y * w) xs₀)

@@ -1,6 +1,7 @@
 // Unpacking in place: the buffer's front holds the packed rows, and it becomes the expanded rows. Rows are done from the bottom, and those at the top from the
 // right, because an expanded pixel may lie where a packed one of the same row or of a row above stands. Where a packed pixel holds one index nothing moves.
-use crate::look::look_up_row;
+use crate::look::look_up_pair;
+use crate::look::look_up_rest;
 use crate::look::packed_byte;
 use crate::table::columns_of;
 use crate::table::index_range;
@@ -221,10 +222,28 @@ fn look_up_row_at(image: &mut [u8], y: usize, expanded: Expanded, table: &[[u8; 
     let w = expanded.0;
     let a = 4 * (y * w);
     let b = a + 4 * w;
-    look_up_row(&mut image[a..b], w, table);
+    look_up_rest(&mut image[a..b], 0, w, table);
 }
 
-// The rows of such a picture. Nothing moves, so that their order is free: a row of the upper half and one of the lower by turns, which is faster on an Intel than one after another.
+// Rows y and half + y, whose part of the buffer goes from the first pixel of the one to the last of the other.
+fn look_up_pair_at(
+    image: &mut [u8],
+    y: usize,
+    half: usize,
+    expanded: Expanded,
+    table: &[[u8; 4]; 256],
+)
+    requires { ⌜ (1 ≤ half) × (4 * ((half + y) * expanded .0 + expanded .0) ≤ length (now image)) ⌝ }
+    ensures { λ _. ⌜ now (image .exit) ≡ run pixelCells (given (looked (entryIn (now (table .entry))) (pixels (now (image .entry))))) ((half + y) * expanded .0) (expanded .0) (run pixelCells (given (looked (entryIn (now (table .entry))) (pixels (now (image .entry))))) (y * expanded .0) (expanded .0) (now (image .entry))) ⌝ }
+{
+    let w = expanded.0;
+    let far = half * w;
+    let a = 4 * (y * w);
+    let b = a + 4 * (far + w);
+    look_up_pair(&mut image[a..b], far, w, table);
+}
+
+// The rows of such a picture: a row of the upper half and one of the lower at a time, and the last one by itself where their number is odd.
 fn look_up_rows(image: &mut [u8], width: usize, height: usize, table: &[[u8; 4]; 256])
     requires { ⌜ Sized width height ⌝ }
     requires { ⌜ Holds width height (now image) ⌝ }
@@ -233,8 +252,7 @@ fn look_up_rows(image: &mut [u8], width: usize, height: usize, table: &[[u8; 4];
     let half = height / 2;
     let mut y = 0;
     while y < half {
-        look_up_row_at(image, y, Expanded(width), table);
-        look_up_row_at(image, half + y, Expanded(width), table);
+        look_up_pair_at(image, y, half, Expanded(width), table);
         y += 1;
     }
     if half + half < height {

@@ -65,7 +65,7 @@ module _ (a k : ℕ) (xs : List ℕ) (fits : 4 * a + k ≤ length xs) where
         byte-back (4 * a) k xs z fits full (4 * (a + j) + 3) (4 * j + 3) (omega arith) (omega arith),
       )
 
-  put-back : (z : List ℕ) → length z ≡ k → (j : ℕ) (v : Pixel) → 4 * j + 4 ≤ k → putPixel (back (4 * a) k xs z) (a + j) v ≡ back (4 * a) k xs (putPixel z j v)
+  pub put-back : (z : List ℕ) → length z ≡ k → (j : ℕ) (v : Pixel) → 4 * j + 4 ≤ k → putPixel (back (4 * a) k xs z) (a + j) v ≡ back (4 * a) k xs (putPixel z j v)
   unfolding putPixel
   put-back z full j v h =
       let z1 = set z (4 * j) (v .red) in

@@ -34,16 +34,13 @@ look-up-rows-spec =
     Inv-loop
     μ-loop
     (λ c. (omega arith, refl, none _ _ _ _))
-    (λ c κs. let l = c .before .before .loop in row-room (l .y) _ _ _ _ (c .before .before .before .before .pre .1) (l .inv .1) (omega arith))
-    (λ c. let s = c .before .before .before .before .before .before .before .before .pre .0 in omega arith)
-    (λ c κs. let l = c .before .before .before .before .before .before .loop in row-room (c .before .before .before .before .before .before .before .before .args .height / 2 + l .y) _ _ _ _ (c .before .before .before .before .before .before .before .before .pre .1) (c .before .before .before .look-up-row-at .kept .0 ∙ l .inv .1) (omega arith))
+    (λ c κs. let l = c .before .before .loop in (omega arith, row-room (c .before .before .before .before .args .height / 2 + l .y) _ _ _ _ (c .before .before .before .before .pre .1) (l .inv .1) (omega arith)))
     (λ c. omega arith)
     (λ c. omega arith)
     (λ c.
-    let l = c .before .before .before .before .before .before .before .before .before .loop in
-    let p = c .before .before .before .before .before .before .look-up-row-at in
-    let q = c .before .before .look-up-row-at2 in
-    (omega arith, q .kept .0 ∙ p .kept .0 ∙ l .inv .1, looked-rows _ _ _ (l .y) _ _ _ _ (l .inv .2) (p .ensures) (q .ensures) (omega arith)))
+    let l = c .before .before .before .before .before .loop in
+    let p = c .before .before .look-up-pair-at in
+    (omega arith, p .kept .0 ∙ l .inv .1, looked-rows _ _ _ (l .y) _ _ _ (l .inv .2) (p .ensures) (omega arith)))
     (λ c. omega arith)
     (λ c. omega arith)
     (λ c κs. row-room (c .before .before .before .before .before .args .height / 2 + c .before .before .before .before .before .args .height / 2) _ _ _ _ (c .before .before .before .before .before .pre .1) (c .before .before .before .loop .inv .1) (omega arith))
@@ -51,6 +48,6 @@ look-up-rows-spec =
     (λ c.
     let l = c .before .before .before .before .before .before .loop in
     let both = looked-halves _ _ _ (l .y) (c .before .before .before .before .before .before .before .before .args .height / 2 + c .before .before .before .before .before .before .before .before .args .height / 2) _ _ (l .inv .2) (omega arith) refl in
-    looked-odd _ _ _ _ _ _ _ both (c .before .before .look-up-row-at3 .ensures) (omega arith))
+    looked-odd _ _ _ _ _ _ _ both (c .before .before .look-up-row-at .ensures) (omega arith))
     (λ c. search needs)
     (λ c. looked-halves _ _ _ (c .before .before .loop .y) _ _ _ (c .before .before .loop .inv .2) (omega arith) (omega arith)))

@@ -1,8 +1,8 @@
 -- Packed pixels of one index each.
 use mathlib.Core.List.{List}
 use mathlib.Core.Path.{_≡_, refl, sym, ap, _∙_}
-use Prim.Native.Nat.{ℕ, zero, suc, _+_, _-_, _*_, _%_, _<_, _≤_}
-use native.Mathlib.Nat.{add-zero, zero-add, add-assoc, add-mul, div-one, mod-one, div-add-mod', mod-lt, mod-eq-of-lt}
+use Prim.Native.Nat.{ℕ, _+_, _-_, _*_, _%_, _<_, _≤_}
+use native.Mathlib.Nat.{add-zero, zero-add, add-mul, div-one, mod-one, div-add-mod', mod-lt, mod-eq-of-lt}
 use native.Mathlib.Omega.{arith}
 use borrow.Author.Tests.{lt-leb}
 use lib.Dec.{leb}
@@ -17,7 +17,7 @@ use Rattle.color_table.specs.Table.{entryIn, TableOf}
 use Rattle.color_table.specs.Unpack.{looked}
 use Rattle.pixel.proofs.Given.{given-same, given-apart}
 use Rattle.pixel.proofs.Blocks.{row-there}
-use Rattle.pixel.proofs.Part.{back, part, part-back, put-back, pixels-part}
+use Rattle.pixel.proofs.Part.{back, part, part-back, pixels-part, shifted, back-run}
 use Rattle.color_table.proofs.Rows.{next-columns}
 
 pub given-one : (f : Picture) (i : ℕ) (xs ys : List ℕ) (v : Pixel) → v ≡ f i → ys ≡ putPixel xs i v → ys ≡ run pixelCells (given f) i 1 xs
@@ -78,22 +78,6 @@ pub looked-same : (e : Picture) (h i n : ℕ) (xs₀ xs : List ℕ) → xs ≡ r
 looked-same e h i n xs₀ xs r q = rw q at r
 
 -- rows
-
--- f from index a on
-unfoldable shifted : Picture → ℕ → Picture
-shifted f a i = f (a + i)
-
--- pixels replaced in a part are pixels replaced in the whole
-back-run : (f : Picture) (a k : ℕ) (xs z : List ℕ) → 4 * a + k ≤ length xs → length z ≡ k → (b n : ℕ) → 4 * (b + n) ≤ k
-    → back (4 * a) k xs (run pixelCells (given (shifted f a)) b n z) ≡ run pixelCells (given f) (a + b) n (back (4 * a) k xs z)
-unfolding run given shifted
-back-run f a k xs z fits full b zero l = refl
-back-run f a k xs z fits full b (suc n) l =
-    let r = back-run f a k xs z fits full b n (omega arith) in
-    let u = run pixelCells (given (shifted f a)) b n z in
-    let long : length u ≡ k = length-run pixelCells pixel-lawful (given (shifted f a)) b z n ∙ full in
-    let j = add-assoc a b n in
-    sym (put-back a k xs fits u long (b + n) (f (a + (b + n))) (omega arith)) ∙ cc
 
 module _ (e : Picture) (w : ℕ) where
   -- a row in its part of the picture, which comes back as ys

@@ -26,7 +26,7 @@ fn look_up(part: &[u8], i: usize, table: &[[u8; 4]; 256]) -> Pixel
     entry_at(table, packed_byte(part, i))
 }
 
-// The entries at p, q, r and s as pixels i to i + 3. All are read before one is written, so that the sixteen bytes are moved at once.
+// The entries at p, q, r and s as pixels i to i + 3. All are read before one is written, so that two pixels are moved at once.
 fn put_entries(part: &mut [u8], i: usize, p: u8, q: u8, r: u8, s: u8, table: &[[u8; 4]; 256])
     requires { ⌜ 4 * i + 16 ≤ length (now part) ⌝ }
     ensures { λ _. ⌜ now (part .exit) ≡ putPixel (putPixel (putPixel (putPixel (now (part .entry)) i (entryIn (now (table .entry)) p)) (i + 1) (entryIn (now (table .entry)) q)) (i + 2) (entryIn (now (table .entry)) r)) (i + 3) (entryIn (now (table .entry)) s) ⌝ }
@@ -66,7 +66,7 @@ fn look_up_fours(part: &mut [u8], far: usize, count: usize, table: &[[u8; 4]; 25
     }
 }
 
-// Pixels `from` up to `count`.
+// The pixels from `from` up to `count`, one by one.
 pub fn look_up_rest(part: &mut [u8], from: usize, count: usize, table: &[[u8; 4]; 256])
     requires { ⌜ (from ≤ count) × (4 * count ≤ length (now part)) ⌝ }
     ensures { λ _. ⌜ now (part .exit) ≡ run pixelCells (given (looked (entryIn (now (table .entry))) (pixels (now (part .entry))))) from (count - from) (now (part .entry)) ⌝ }
@@ -78,7 +78,7 @@ pub fn look_up_rest(part: &mut [u8], from: usize, count: usize, table: &[[u8; 4]
     }
 }
 
-// Two rows.
+// Two rows of `width` pixels, at the front of the part and from pixel `far` on.
 pub fn look_up_pair(part: &mut [u8], far: usize, width: usize, table: &[[u8; 4]; 256])
     requires { ⌜ (width ≤ far) × (4 * (far + width) ≤ length (now part)) ⌝ }
     ensures { λ _. ⌜ now (part .exit) ≡ run pixelCells (given (looked (entryIn (now (table .entry))) (pixels (now (part .entry))))) far width (run pixelCells (given (looked (entryIn (now (table .entry))) (pixels (now (part .entry))))) 0 width (now (part .entry))) ⌝ }

@@ -1,14 +1,14 @@
 -- A part of a buffer that is lent and comes back: pixels replaced in order in the part are pixels replaced in order in the whole.
 use mathlib.Core.List.{List, [], _∷_, _++_}
-use mathlib.Core.Path.{_≡_, sym, ap, _∙_}
+use mathlib.Core.Path.{_≡_, refl, sym, ap, _∙_}
 use Prim.Native.Nat.{ℕ, zero, suc, _+_, _-_, _*_, _<_, _≤_}
 use native.Mathlib.Nat.{add-zero, zero-add, suc-add, add-assoc}
 use native.Mathlib.Omega.{arith}
 use lib.ListN.{length, set, take, drop, length-set, length-drop, take-append-drop, List·getD-append}
 use lib.Seq.{getD-append-add, set-append-left, length-take-le, getD-take, getD-drop}
 use Rattle.format.specs.declared.Pixel.{Pixel}
-use Rattle.format.specs.Picture.{byteAt, pixels}
-use Rattle.pixel.specs.Cells.{pixelCells, putPixel, Rule, run}
+use Rattle.format.specs.Picture.{Picture, byteAt, pixels}
+use Rattle.pixel.specs.Cells.{pixelCells, putPixel, Rule, run, given}
 use Rattle.pixel.proofs.Cells.{pixel-lawful, length-run}
 
 set-append-add : (xs ys : List ℕ) (n v : ℕ) → set (xs ++ ys) (length xs + n) v ≡ xs ++ set ys n v
@@ -65,7 +65,7 @@ module _ (a k : ℕ) (xs : List ℕ) (fits : 4 * a + k ≤ length xs) where
         byte-back (4 * a) k xs z fits full (4 * (a + j) + 3) (4 * j + 3) (omega arith) (omega arith),
       )
 
-  pub put-back : (z : List ℕ) → length z ≡ k → (j : ℕ) (v : Pixel) → 4 * j + 4 ≤ k → putPixel (back (4 * a) k xs z) (a + j) v ≡ back (4 * a) k xs (putPixel z j v)
+  put-back : (z : List ℕ) → length z ≡ k → (j : ℕ) (v : Pixel) → 4 * j + 4 ≤ k → putPixel (back (4 * a) k xs z) (a + j) v ≡ back (4 * a) k xs (putPixel z j v)
   unfolding putPixel
   put-back z full j v h =
       let z1 = set z (4 * j) (v .red) in
@@ -128,3 +128,19 @@ pub part-back : (f g : Rule Pixel) (a n : ℕ) (xs ys : List ℕ) → ys ≡ run
 part-back f g a n xs ys e s fits =
     let j : 4 * a + 4 * n - 4 * a ≡ 4 * n = omega arith in
     rw (e, j) (rw add-zero at (part-run f g a n 0 xs fits n (omega arith) s))
+
+-- f from index a on
+unfoldable pub shifted : Picture → ℕ → Picture
+shifted f a i = f (a + i)
+
+-- cells given by their index alone, in a part that is any list of its length
+pub back-run : (f : Picture) (a k : ℕ) (xs z : List ℕ) → 4 * a + k ≤ length xs → length z ≡ k → (b n : ℕ) → 4 * (b + n) ≤ k
+    → back (4 * a) k xs (run pixelCells (given (shifted f a)) b n z) ≡ run pixelCells (given f) (a + b) n (back (4 * a) k xs z)
+unfolding run given shifted
+back-run f a k xs z fits full b zero l = refl
+back-run f a k xs z fits full b (suc n) l =
+    let r = back-run f a k xs z fits full b n (omega arith) in
+    let u = run pixelCells (given (shifted f a)) b n z in
+    let long : length u ≡ k = length-run pixelCells pixel-lawful (given (shifted f a)) b z n ∙ full in
+    let j = add-assoc a b n in
+    sym (put-back a k xs fits u long (b + n) (f (a + (b + n))) (omega arith)) ∙ cc

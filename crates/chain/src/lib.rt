@@ -1,9 +1,9 @@
 // A chain's bytes read once into plain values, or refused.
-use color_table::unpack::Expanded;
-use color_table::unpack::packed_width;
 use format::Checked;
 use format::Step;
 use pixel::block::subsample_size;
+use pixel::stride::Expanded;
+use pixel::stride::packed_width;
 ghost use mathlib.Core.Path.{_≡_};
 ghost use mathlib.Core.Bool.{true};
 ghost use Prim.Native.Nat.{_+_, _*_, _%_, _<_, _≤_};

@@ -2,7 +2,7 @@
 use crate::each::pack_records;
 use crate::flat::pack_bits;
 use crate::runs::pack_runs;
-use crate::unpack::Expanded;
+use pixel::stride::Expanded;
 ghost use mathlib.Core.Path.{_≡_};
 ghost use mathlib.Core.Bool.{true};
 ghost use Prim.Native.Nat.{_*_, _≤_};

@@ -12,21 +12,6 @@ ghost use Rattle.pixel.specs.Cells.{pixelCells, run, given};
 ghost use Rattle.color_table.specs.Table.{entryIn, TableOf, ColumnsOf};
 ghost use Rattle.color_table.specs.Unpack.{spread};
 
-// How many indices a packed pixel holds.
-pub fn per_pixel(size: usize) -> usize
-    ensures { λ r. ⌜ (r ≡ perPixel size) × (1 ≤ r) × (r ≤ 8) × (r ≡ 6 → ⊥) × (size ≤ 16 → r % 2 ≡ 0) ⌝ }
-{
-    if size <= 2 {
-        8
-    } else if size <= 4 {
-        4
-    } else if size <= 16 {
-        2
-    } else {
-        1
-    }
-}
-
 // One more than the largest index that a packed pixel can hold.
 pub fn index_range(size: usize) -> usize
     requires { ⌜ size ≤ 256 ⌝ }

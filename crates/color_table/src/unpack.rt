@@ -6,7 +6,10 @@ use crate::look::packed_byte;
 use crate::table::columns_of;
 use crate::table::index_range;
 use crate::table::padded;
-use crate::table::per_pixel;
+use pixel::stride::Expanded;
+use pixel::stride::Packed;
+use pixel::stride::packed_width;
+use pixel::stride::per_pixel;
 use pixel::word::put_word;
 use pixel::word::word_at;
 ghost use mathlib.Core.Path.{_≡_};
@@ -18,21 +21,6 @@ ghost use Rattle.pixel.specs.Cells.{pixelCells, putPixel, run, given};
 ghost use Rattle.format.specs.Sizes.{Sized, Holds};
 ghost use Rattle.color_table.specs.Table.{entryIn, ColumnsOf};
 ghost use Rattle.color_table.specs.Unpack.{spread, rowOf, looked};
-
-// Columns of a row of packed pixels.
-pub struct Packed(pub usize);
-
-// Columns of a row of the picture.
-pub struct Expanded(pub usize);
-
-// The packed columns of a row.
-pub fn packed_width(expanded: Expanded, size: usize) -> Packed
-    requires { ⌜ expanded .0 ≤ 16384 ⌝ }
-    ensures { λ r. ⌜ r .0 ≡ packedWidth size (expanded .0) ⌝ }
-{
-    let n = per_pixel(size);
-    Packed((expanded.0 + n - 1) / n)
-}
 
 // Pixels j and j + 1 of `columns` as pixels i and i + 1. Both are read before one is written, so that the eight bytes are moved at once. By words the code is small enough to be
 // compiled anew for each n that `unpack_row` and `unpack_onward_by` pass.

@@ -1,8 +1,8 @@
 // The records of a point's spots: the point followed through the chain. A predictor has five spots for it, and a chain at most one predictor.
-use color_table::table::per_pixel;
-use color_table::unpack::Expanded;
-use color_table::unpack::packed_width;
 use format::Step;
+use pixel::stride::Expanded;
+use pixel::stride::packed_width;
+use pixel::stride::per_pixel;
 ghost use mathlib.Core.Path.{_≡_};
 ghost use mathlib.Core.List.{[], _∷_};
 ghost use Prim.Native.Nat.{_≤_};

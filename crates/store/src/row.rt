@@ -2,8 +2,8 @@
 use crate::rows::copy_pixels;
 use crate::step::advance;
 use color_table::pack::pack_row;
-use color_table::unpack::Expanded;
 use format::Step;
+use pixel::stride::Expanded;
 ghost use mathlib.Core.Path.{_≡_};
 ghost use mathlib.Core.Bool.{true};
 ghost use Prim.Native.Nat.{_*_, _<_, _≤_};

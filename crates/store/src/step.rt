@@ -2,9 +2,9 @@
 use crate::rows::copy_pixels;
 use crate::rows::move_up;
 use color_table::pack::pack_row;
-use color_table::unpack::Expanded;
-use color_table::unpack::packed_width;
 use format::Step;
+use pixel::stride::Expanded;
+use pixel::stride::packed_width;
 ghost use mathlib.Core.Path.{_≡_};
 ghost use mathlib.Core.Bool.{true};
 ghost use Prim.Native.Nat.{ℕ, _+_, _-_, _*_, _<_, _≤_};

@@ -1,7 +1,7 @@
 -- `packed_width` meets its contract.
 use borrow.Author.Needs.{needs}
-use Rattle.color_table.proofs.unpack.packed_width.Statement.{statement}
-use Rattle.color_table.proofs.unpack.packed_width.Tie as tie
+use Rattle.pixel.proofs.stride.packed_width.Statement.{statement}
+use Rattle.pixel.proofs.stride.packed_width.Tie as tie
 
 pub packed-width-spec : {M : Type 1} → statement M
 packed-width-spec =

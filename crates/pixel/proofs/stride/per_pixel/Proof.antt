@@ -3,8 +3,8 @@ use mathlib.Core.Path.{refl}
 use native.Mathlib.Omega.{arith}
 use borrow.Author.Tests.{le-leb, lt-leb}
 use Rattle.format.specs.ColorTable.{perPixel}
-use Rattle.color_table.proofs.table.per_pixel.Statement.{statement}
-use Rattle.color_table.proofs.table.per_pixel.Tie as tie
+use Rattle.pixel.proofs.stride.per_pixel.Statement.{statement}
+use Rattle.pixel.proofs.stride.per_pixel.Tie as tie
 
 pub per-pixel-spec : {M : Type 1} → statement M
 unfolding perPixel

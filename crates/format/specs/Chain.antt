@@ -9,21 +9,21 @@ use Rattle.format.specs.Picture.{byteAt}
 use Rattle.format.specs.ColorTable.{packedWidth}
 
 -- numbers of two and of four bytes, little-endian
-abbrev pub two : List ℕ → ℕ → ℕ
-two xs i = byteAt xs i + 256 * byteAt xs (i + 1)
+abbrev pub le16 : List ℕ → ℕ → ℕ
+le16 xs i = byteAt xs i + 256 * byteAt xs (i + 1)
 
-abbrev pub four : List ℕ → ℕ → ℕ
-four xs i = two xs i + 65536 * two xs (i + 2)
+abbrev pub le32 : List ℕ → ℕ → ℕ
+le32 xs i = le16 xs i + 65536 * le16 xs (i + 2)
 
 -- the fields of record k, where the current width is x
 unfoldable pub recordAt : List ℕ → ℕ → ℕ → Step
 recordAt cs k x = record {
   kind = byteAt cs (16 * k);
   bits = byteAt cs (16 * k + 1);
-  size = two cs (16 * k + 2);
-  offset = four cs (16 * k + 4);
-  length = four cs (16 * k + 8);
-  zero = four cs (16 * k + 12);
+  size = le16 cs (16 * k + 2);
+  offset = le32 cs (16 * k + 4);
+  length = le32 cs (16 * k + 8);
+  zero = le32 cs (16 * k + 12);
   width = x;
 }
 

@@ -14,7 +14,9 @@ pub mod Chain
 pub mod Refusals
 pub mod Stages
 pub mod Made
+pub mod Lists
 pub mod Retouch
 pub mod Calls
 pub mod Desk
+pub mod Promises
 pub mod ValidStep

@@ -8,6 +8,8 @@ use Rattle.format.specs.Choice.{if_then_else_}
 use Rattle.format.specs.Indices.{some}
 use Rattle.format.specs.declared.Pixel.{Pixel}
 use Rattle.format.specs.declared.Step.{Step}
+use Rattle.format.specs.declared.Made.{Made}
+use Rattle.format.specs.declared.Made.the-variants.{Item, Missing}
 use Rattle.format.specs.Picture.{Picture}
 use Rattle.format.specs.Predictor.{index, left, top, topRight, topLeft, mode}
 use Rattle.format.specs.ColorTable.{perPixel, packedWidth, hasEntry}
@@ -63,3 +65,17 @@ takesItem s ds v = if eqb (s .kind) 3 then hasEntry (s .size) (partOf s ds) v el
 unfoldable pub missing : (ℕ → Step) → List ℕ → ℕ → Picture → ℕ → Bool
 missing steps ds zero f r = false
 missing steps ds (suc k) f r = some (λ q. missing steps ds k f q || not (takesItem (steps k) ds (stored steps ds k f q))) (madeOf (steps k) ds r)
+
+-- the item v, unless it is missing
+unfoldable pub made : Bool → Pixel → Made
+made true v = Missing
+made false v = Item v
+
+-- what making item r after the first k records of the picture f gives
+abbrev pub madeItem : (ℕ → Step) → List ℕ → ℕ → Picture → ℕ → Made
+madeItem steps ds k f r = made (missing steps ds k f r) (stored steps ds k f r)
+
+-- document 01's number for what making an item gives; 0 is no refusal
+abbrev pub madeNumber : Made → ℕ
+madeNumber (Item v) = 0
+madeNumber Missing = 22

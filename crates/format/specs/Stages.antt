@@ -13,9 +13,12 @@ use Rattle.format.specs.SubtractGreen.{greenStored, greenRebuilt}
 use Rattle.format.specs.ColorTable.{packed, unpacked, accepted}
 use Rattle.format.specs.Chain.{byKind}
 
--- the pixels of the part of the data that a record names
+-- the part of the data that a record names, and its pixels
+abbrev pub dataOf : Step → List ℕ → List ℕ
+dataOf s ds = take (s .length) (drop (s .offset) ds)
+
 abbrev pub partOf : Step → List ℕ → Picture
-partOf s ds = pixels (take (s .length) (drop (s .offset) ds))
+partOf s ds = pixels (dataOf s ds)
 
 unfoldable pub forward : Step → List ℕ → Picture → Picture
 forward s ds f =

@@ -10,7 +10,7 @@ use Rattle.format.specs.Picture.{Picture, pixels}
 use Rattle.format.specs.Predictor.{residuals, fromResiduals}
 use Rattle.format.specs.Color.{colorStored, colorRebuilt}
 use Rattle.format.specs.SubtractGreen.{greenStored, greenRebuilt}
-use Rattle.format.specs.ColorTable.{packed, unpacked, accepted}
+use Rattle.format.specs.ColorTable.{packed, unpacked, haveEntries}
 use Rattle.format.specs.Chain.{byKind}
 
 -- the part of the data that a record names, and its pixels
@@ -32,7 +32,7 @@ backward s h ds g =
 
 -- a record takes a picture: every pixel that reaches a table has an entry
 unfoldable pub takes : Step → ℕ → List ℕ → Picture → Bool
-takes s h ds f = if eqb (s .kind) 3 then accepted (s .size) (partOf s ds) (h * s .width) f else true
+takes s h ds f = if eqb (s .kind) 3 then haveEntries (s .size) (partOf s ds) (h * s .width) f else true
 
 -- the records of a chain, by their numbers
 module _ (steps : ℕ → Step) where

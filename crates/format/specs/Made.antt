@@ -66,6 +66,10 @@ unfoldable pub missing : (ℕ → Step) → List ℕ → ℕ → Picture → ℕ
 missing steps ds zero f r = false
 missing steps ds (suc k) f r = some (λ q. missing steps ds k f q || not (takesItem (steps k) ds (stored steps ds k f q))) (madeOf (steps k) ds r)
 
+-- record k makes nothing of item q: it cannot be made, or is not taken
+abbrev pub lost : (ℕ → Step) → List ℕ → ℕ → Picture → ℕ → Bool
+lost steps ds k f q = missing steps ds k f q || not (takesItem (steps k) ds (stored steps ds k f q))
+
 -- the item v, unless it is missing
 unfoldable pub made : Bool → Pixel → Made
 made true v = Missing

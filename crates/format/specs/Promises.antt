@@ -1,7 +1,7 @@
 -- What is promised: the demands of document 00, on the bytes of the calls. They are proved in proofs/Demands.antt.
 use mathlib.Core.Bool.{Bool, true, false, _&&_}
 use mathlib.Core.List.{List}
-use mathlib.Core.Logic.{_⊎_}
+use mathlib.Core.Logic.{_⊎_, _↔_}
 use mathlib.Core.Path.{_≡_}
 use Prim.Native.Nat.{ℕ, _*_, _<_, _≤_}
 use lib.Count as Count
@@ -11,7 +11,7 @@ use Rattle.format.specs.declared.Pixel.{Pixel}
 use Rattle.format.specs.Picture.{byteAt, pixels, written}
 use Rattle.format.specs.ColorMap.{colorMapAnswer, adjustColorMap, unadjustColorMap}
 use Rattle.format.specs.Chain.{stepAt, count}
-use Rattle.format.specs.Refusals.{accepted}
+use Rattle.format.specs.Refusals.{accepted, sizeRefusal, Valid}
 use Rattle.format.specs.Stages.{accepts}
 use Rattle.format.specs.Retouch.{differ, answer}
 use Rattle.format.specs.Calls.{records, rebuildAnswer, rebuildImage, storeAnswer, storeStrip, inside, retouchAnswer, retouchPicture, retouchStrip}
@@ -55,6 +55,19 @@ module _ (w h : ℕ) (cs ds : List ℕ) where
   abbrev pub RetouchingRefused : Type 0
   RetouchingRefused = (picture strip : List ℕ) (x y : ℕ) (v : Pixel) → accepted (retouchAnswer w h cs ds picture strip x y v) ≡ false
       → (retouchPicture w h cs ds picture strip x y v ≡ picture) × (retouchStrip w h cs ds picture strip x y v ≡ strip)
+
+  -- 1 does not apply, and the chain is valid
+  abbrev pub Admitted : Type 0
+  Admitted = (sizeRefusal w h ≡ 0) × Valid w h cs ds
+
+  -- what is accepted, exactly: a valid chain, buffers with room and, where storing, an entry for each pixel that reaches the table
+  abbrev pub RebuildingExactly : Type 0
+  RebuildingExactly = (image : List ℕ) → (rebuildAnswer w h cs ds image ≡ 0) ↔ (Admitted × (4 * (h * w) ≤ length image))
+
+  abbrev pub StoringExactly : Type 0
+  StoringExactly = (picture strip : List ℕ)
+      → (storeAnswer w h cs ds picture strip ≡ 0)
+      ↔ (Admitted × (4 * (h * w) ≤ length picture) × (4 * records w h cs ≤ length strip) × (accepts (stepAt cs w) h ds (count cs) (pixels picture) ≡ true))
 
   -- demand 2: rebuilding a stored picture gives that picture, every byte beyond kept
   abbrev pub RebuildsStored : Type 0

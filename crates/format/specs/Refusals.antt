@@ -2,6 +2,7 @@
 -- cs is the chain, w and h the picture's width and height, ds the data.
 use mathlib.Core.Bool.{Bool, not, _&&_, _||_}
 use mathlib.Core.List.{List}
+use mathlib.Core.Path.{_≡_}
 use Prim.Native.Nat.{ℕ, zero, suc, _+_, _*_, _%_, _^_}
 use lib.Dec.{eqb, leb, ltb}
 use lib.ListN.{length}
@@ -84,9 +85,13 @@ wholeRecords cs = eqb (length cs % 16) 0 && leb (length cs) 64
 unfoldable pub sizeRefusal : ℕ → ℕ → ℕ
 sizeRefusal w h = 1 unless (inRange w && inRange h)
 
--- refusals 2 to 7. A chain is valid, for its width, height and data, if none of them applies
+-- refusals 2 to 7
 unfoldable pub chainRefusal : ℕ → ℕ → List ℕ → List ℕ → ℕ
 chainRefusal w h cs ds = (2 unless wholeRecords cs) before recordsRefusal cs w h ds (count cs)
+
+-- a chain is valid, for its width, height and data, if none of them applies
+abbrev pub Valid : ℕ → ℕ → List ℕ → List ℕ → Type 0
+Valid w h cs ds = chainRefusal w h cs ds ≡ 0
 
 -- refusals 1 to 7
 unfoldable pub inputRefusal : ℕ → ℕ → List ℕ → List ℕ → ℕ

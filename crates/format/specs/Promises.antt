@@ -11,7 +11,7 @@ use Rattle.format.specs.declared.Pixel.{Pixel}
 use Rattle.format.specs.Picture.{byteAt, pixels, written}
 use Rattle.format.specs.ColorMap.{colorMapAnswer, adjustColorMap, unadjustColorMap}
 use Rattle.format.specs.Chain.{stepAt, count}
-use Rattle.format.specs.Refusals.{accepted, sizeRefusal, Valid}
+use Rattle.format.specs.Refusals.{accepted, sizeRefusal, ValidChain}
 use Rattle.format.specs.Stages.{accepts}
 use Rattle.format.specs.Retouch.{differ, answer}
 use Rattle.format.specs.Calls.{records, rebuildAnswer, rebuildImage, storeAnswer, storeStrip, inside, retouchAnswer, retouchPicture, retouchStrip}
@@ -58,7 +58,7 @@ module _ (w h : ℕ) (cs ds : List ℕ) where
 
   -- 1 does not apply, and the chain is valid
   abbrev pub Admitted : Type 0
-  Admitted = (sizeRefusal w h ≡ 0) × Valid w h cs ds
+  Admitted = (sizeRefusal w h ≡ 0) × ValidChain w h cs ds
 
   -- what is accepted, exactly: a valid chain, buffers with room and, where storing, an entry for each pixel that reaches the table
   abbrev pub RebuildingExactly : Type 0

@@ -90,8 +90,8 @@ unfoldable pub chainRefusal : ℕ → ℕ → List ℕ → List ℕ → ℕ
 chainRefusal w h cs ds = (2 unless wholeRecords cs) before recordsRefusal cs w h ds (count cs)
 
 -- a chain is valid, for its width, height and data, if none of them applies
-abbrev pub Valid : ℕ → ℕ → List ℕ → List ℕ → Type 0
-Valid w h cs ds = chainRefusal w h cs ds ≡ 0
+abbrev pub ValidChain : ℕ → ℕ → List ℕ → List ℕ → Type 0
+ValidChain w h cs ds = chainRefusal w h cs ds ≡ 0
 
 -- refusals 1 to 7
 unfoldable pub inputRefusal : ℕ → ℕ → List ℕ → List ℕ → ℕ

@@ -14,8 +14,9 @@ use Rattle.format.specs.Refusals.{accepted, sizeRefusal, chainRefusal, i
 use Rattle.format.specs.Stages.{stored, rebuilt}
 use Rattle.format.specs.Retouch.{differ, marks, maskOf}
 use Rattle.format.specs.Calls.{records, rebuildAnswer, rebuildImage, storeAnswer, storeStrip, touched}
-use Rattle.format.specs.Desk.{Retouch, Buffers, callLeaves}
-use Rattle.format.specs.Promises.{SameFront, Admitted, RebuildingExactly, StoringExactly, RebuildingAnswers, StoringAnswers, RetouchingAnswers, RebuildingRefused, StoringRefused, RetouchingRefused, RebuildsStored, StoresRebuilt, StoredPair, OneCall, left, RetouchesLikeDesk, ColorMapAnswers, ColorMapRefused}
+use Rattle.format.specs.Lists.{leftBy}
+use Rattle.format.specs.Desk.{Retouch, Buffers, desk, callLeaves}
+use Rattle.format.specs.Promises.{SameFront, Admitted, RebuildingExactly, StoringExactly, RebuildingAnswers, StoringAnswers, RetouchingAnswers, RebuildingRefused, StoringRefused, RetouchingRefused, RebuildsStored, StoresRebuilt, StoredPair, OneCall, left, paintedInTurn, RetouchesLikeDesk, ColorMapAnswers, ColorMapRefused}
 use Rattle.format.proofs.Picture.{written-same}
 use Rattle.format.proofs.Written.{bytes-pixels, pixels-written}
 use Rattle.format.proofs.Inside.{Alike}
@@ -77,8 +78,8 @@ module _ (w h : ℕ) (cs ds : List ℕ) where
 
   pub storing-exactly : StoringExactly w h cs ds
   storing-exactly picture strip = (
-    λ e. let a = store-accepted w h cs ds picture strip e in (admitted .0 (a .0), a .1, a .2, a .3),
-    λ a. store-accepts w h cs ds picture strip (admitted .1 (a .0)) (a .1) (a .2) (a .3),
+    λ e. let a = store-accepted w h cs ds picture strip e in (admitted .0 (a .0), (a .1, a .2), a .3),
+    λ a. store-accepts w h cs ds picture strip (admitted .1 (a .0)) (a .1 .0) (a .1 .1) (a .2),
   )
 
   pub rebuilds-stored : RebuildsStored w h cs ds
@@ -173,11 +174,12 @@ module _ (w h : ℕ) (cs ds : List ℕ) where
       let m = matched b s in
       let both = listed w h cs ds valid calls b m in
       let l = both .1 in
+      let painted : paintedInTurn w h cs ds b calls ≡ leftBy (desk w h cs ds) (pixels (b .picture)) calls = rw (both .0) (sym (desk-painted w h cs ds calls (pixels (b .picture)))) in
       let a = store-accepts w h cs ds (left w h cs ds b calls .picture) (b .strip) valid (l .matched .room) (m .space) (l .matched .taken) in
       record {
         answers = both .0;
-        picture = l .picture ∙ ap (λ (f : Picture). written (h * w) f (b .picture)) (desk-painted w h cs ds calls (pixels (b .picture)) ∙ rw (← both .0) refl);
-        deskPicture = l .picture;
+        picture = l .picture ∙ ap (λ (f : Picture). written (h * w) f (b .picture)) (sym painted);
+        held = painted;
         stored = a;
         strip = l .strip ∙ rw (← l .read) (sym (storeStrip-accepted w h cs ds (left w h cs ds b calls .picture) (b .strip) a));
         next = λ c. one-call valid (left w h cs ds b calls) c (l .matched);

@@ -73,7 +73,8 @@ accepted n = eqb n 0 || leb 256 n
 -- the refusal of the first k records
 unfoldable pub recordsRefusal : List ℕ → ℕ → ℕ → List ℕ → ℕ → ℕ
 recordsRefusal cs w h ds zero = 0
-recordsRefusal cs w h ds (suc k) = recordsRefusal cs w h ds k before number (checked (usedBefore cs k) h ds (stepAt cs w k))
+recordsRefusal cs w h ds (suc k) =
+    recordsRefusal cs w h ds k before number (checked (usedBefore cs k) h ds (stepAt cs w k))
 
 abbrev pub inRange : ℕ → Bool
 inRange x = leb 1 x && leb x 16384

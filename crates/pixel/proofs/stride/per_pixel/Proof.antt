@@ -1,8 +1,8 @@
 -- `per_pixel` meets its contract, test by test.
 use mathlib.Core.Path.{refl}
-use native.Mathlib.Omega.{arith}
 use borrow.Author.Tests.{le-leb, lt-leb}
 use Rattle.format.specs.ColorTable.{perPixel}
+use Rattle.pixel.proofs.Places.{places-1, places-2, places-4, places-8}
 use Rattle.pixel.proofs.stride.per_pixel.Statement.{statement}
 use Rattle.pixel.proofs.stride.per_pixel.Tie as tie
 
@@ -11,7 +11,7 @@ unfolding perPixel
 per-pixel-spec =
     tie.close
     (tie.spec
-    (λ c. rw (le-leb _ _ (c .if1 .taken)) (refl, omega arith, omega arith, (λ h. omega arith), λ h. refl))
-    (λ c. rw (lt-leb _ _ (c .before .if1 .left), le-leb _ _ (c .if2 .taken)) (refl, omega arith, omega arith, (λ h. omega arith), λ h. refl))
-    (λ c. rw (lt-leb _ _ (c .before .before .if1 .left), lt-leb _ _ (c .before .if2 .left), le-leb _ _ (c .if3 .taken)) (refl, omega arith, omega arith, (λ h. omega arith), λ h. refl))
-    (λ c. rw (lt-leb _ _ (c .before .before .if1 .left), lt-leb _ _ (c .before .if2 .left), lt-leb _ _ (c .if3 .left)) (refl, omega arith, omega arith, (λ h. omega arith), λ h. absurd (omega arith))))
+    (λ c. rw (le-leb _ _ (c .if1 .taken)) (refl, places-8))
+    (λ c. rw (lt-leb _ _ (c .before .if1 .left), le-leb _ _ (c .if2 .taken)) (refl, places-4))
+    (λ c. rw (lt-leb _ _ (c .before .before .if1 .left), lt-leb _ _ (c .before .if2 .left), le-leb _ _ (c .if3 .taken)) (refl, places-2))
+    (λ c. rw (lt-leb _ _ (c .before .before .if1 .left), lt-leb _ _ (c .before .if2 .left), lt-leb _ _ (c .if3 .left)) (refl, places-1)))

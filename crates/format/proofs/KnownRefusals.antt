@@ -1,4 +1,4 @@
--- Further pictures, worked by hand from document 01: refusals 1 to 8 and 21 with their order, and chains of several records.
+-- Further pictures, worked by hand from document 01: refusals 1 to 8 and 21, each at its boundary, and their order.
 use mathlib.Core.List.{List, [], _∷_, _++_, map}
 use mathlib.Core.Path.{_≡_, refl}
 use Prim.Native.Nat.{ℕ}
@@ -13,11 +13,14 @@ use Rattle.format.specs.Chain.{recordAt, byKind, narrowed, widthAt}
 use Rattle.format.specs.Refusals.{tabled, tabledLength, checked, recordsRefusal, sizeRefusal, chainRefusal, inputRefusal}
 use Rattle.format.specs.Stages.{forward, backward, stored, rebuilt, takes, accepts}
 use Rattle.format.specs.Calls.{pairRefusal, rebuildAnswer, rebuildImage, storeAnswer, storeStrip}
-use Rattle.format.proofs.Worked.{Line, _is_, blacks, zeros, nines, bytes, inRed, residues, reds, inGreen, mode, recordOf, predictor, color, green, table, set}
+use Rattle.format.proofs.Worked.{Line, _is_, blacks, zeros, nines, bytes, inRed, reds, recordOf, predictor, color, green, table, set}
 
 -- rebuilding with no buffer: 8 where nothing comes before
 abbrev refusal : ℕ → ℕ → List ℕ → List ℕ → ℕ
 refusal w h cs ds = rebuildAnswer w h cs ds []
+
+abbrev oneByOne : List ℕ → List ℕ → ℕ
+oneByOne cs ds = refusal 1 1 cs ds
 
 -- each of the 16 bytes of a record set to v in turn, in a picture of 1 by 1
 abbrev damages : ℕ → List ℕ → List ℕ → List ℕ
@@ -25,34 +28,17 @@ damages v cs ds =
     map (λ (i : ℕ). rebuildAnswer 1 1 (set i v cs) ds (zeros 1))
     (0 ∷ 1 ∷ 2 ∷ 3 ∷ 4 ∷ 5 ∷ 6 ∷ 7 ∷ 8 ∷ 9 ∷ 10 ∷ 11 ∷ 12 ∷ 13 ∷ 14 ∷ 15 ∷ [])
 
--- 2 by 2; 2 by 1; color data that a predictor reads as mode 8
-abbrev small : List ℕ
-small = inRed (1 ∷ 2 ∷ 4 ∷ 9 ∷ [])
-
-abbrev two : List ℕ
-two = 9 ∷ 40 ∷ 7 ∷ 1 ∷ 200 ∷ 150 ∷ 30 ∷ 6 ∷ []
-
-abbrev shared : List ℕ
-shared = 100 ∷ 8 ∷ 37 ∷ 0 ∷ []
-
--- a chain of all four kinds and its data: color, mode 2, and four residuals
-abbrev allKinds : List ℕ
-allKinds = green ++ color ++ recordOf 0 2 0 4 4 ++ recordOf 3 0 4 8 16
-
-abbrev allData : List ℕ
-allData = 0 ∷ 0 ∷ 32 ∷ 0 ∷ 0 ∷ 2 ∷ 0 ∷ 255 ∷ 0 ∷ 0 ∷ 0 ∷ 0 ∷ 254 ∷ 2 ∷ 0 ∷ 0 ∷ 255 ∷ 1 ∷ 0 ∷ 0 ∷ 255 ∷ 1 ∷ 0 ∷ 255 ∷ []
-
 abbrev pub worked : List Line
 worked =
     -- width and height are 1 to 16384: 8 where only the buffer is wanting
     (refusal 0 1 [] [] ∷ refusal 1 0 [] [] ∷ refusal 16385 1 [] [] ∷ refusal 1 16385 [] [] ∷ [] is 1 ∷ 1 ∷ 1 ∷ 1 ∷ [])
-    ∷ (refusal 16384 1 [] [] ∷ refusal 1 16384 [] [] ∷ refusal 1 1 [] [] ∷ [] is 8 ∷ 8 ∷ 8 ∷ [])
+    ∷ (refusal 16384 1 [] [] ∷ refusal 1 16384 [] [] ∷ oneByOne [] [] ∷ [] is 8 ∷ 8 ∷ 8 ∷ [])
     -- a chain is 0 to 4 whole records; 1 before 2, 2 before 3
-    ∷ (refusal 1 1 (bytes 1) [] ∷ refusal 1 1 (bytes 15) [] ∷ refusal 1 1 (bytes 80) [] ∷ refusal 0 1 (bytes 15) []
-    ∷ refusal 1 1 (4 ∷ []) [] ∷ []
+    ∷ (oneByOne (bytes 1) [] ∷ oneByOne (bytes 15) [] ∷ oneByOne (bytes 80) [] ∷ refusal 0 1 (bytes 15) []
+    ∷ oneByOne (4 ∷ []) [] ∷ []
     is 2 ∷ 2 ∷ 2 ∷ 1 ∷ 2 ∷ [])
-    ∷ (refusal 1 1 (predictor ++ color ++ green ++ table 1) (zeros 1) ∷ refusal 1 1 (predictor ++ color ++ green
-    ++ table 1 ++ green) (zeros 1) ∷ []
+    ∷ (oneByOne (predictor ++ color ++ green ++ table 1) (zeros 1)
+    ∷ oneByOne (predictor ++ color ++ green ++ table 1 ++ green) (zeros 1) ∷ []
     is 8 ∷ 2 ∷ [])
     -- a record's 16 bytes, each set to 1, to 4 and to 10 in turn: of each kind, what refuses it
     ∷ (damages 1 predictor (zeros 1) is 0 ∷ 5 ∷ 5 ∷ 5 ∷ 7 ∷ 7 ∷ 7 ∷ 7 ∷ 6 ∷ 6 ∷ 6 ∷ 6 ∷ 5 ∷ 5 ∷ 5 ∷ 5 ∷ [])
@@ -62,33 +48,33 @@ worked =
     ∷ (damages 4 predictor (zeros 3) is 3 ∷ 0 ∷ 5 ∷ 5 ∷ 0 ∷ 7 ∷ 7 ∷ 7 ∷ 0 ∷ 6 ∷ 6 ∷ 6 ∷ 5 ∷ 5 ∷ 5 ∷ 5 ∷ [])
     ∷ (damages 10 (table 1) (zeros 4) is 3 ∷ 5 ∷ 6 ∷ 5 ∷ 0 ∷ 7 ∷ 7 ∷ 7 ∷ 6 ∷ 6 ∷ 6 ∷ 6 ∷ 5 ∷ 5 ∷ 5 ∷ 5 ∷ [])
     -- kind over 3 is refused by 3; 0 to 3 are taken
-    ∷ (refusal 1 1 (set 0 4 green) [] ∷ refusal 1 1 (set 0 255 green) [] ∷ refusal 1 1 green []
-    ∷ refusal 1 1 (table 1) (zeros 1) ∷ []
+    ∷ (oneByOne (set 0 4 green) [] ∷ oneByOne (set 0 255 green) [] ∷ oneByOne green [] ∷ oneByOne (table 1) (zeros 1)
+    ∷ []
     is 3 ∷ 3 ∷ 8 ∷ 8 ∷ [])
     -- a kind used before is refused by 4, next to the first or not; 3 before 4
-    ∷ (refusal 1 1 (green ++ green) [] ∷ refusal 1 1 (predictor ++ green ++ predictor) (zeros 1) ∷ refusal 1 1 (green
-    ++ predictor ++ color ++ color) (zeros 1) ∷ []
+    ∷ (oneByOne (green ++ green) [] ∷ oneByOne (predictor ++ green ++ predictor) (zeros 1)
+    ∷ oneByOne (green ++ predictor ++ color ++ color) (zeros 1) ∷ []
     is 4 ∷ 4 ∷ 4 ∷ [])
-    ∷ (refusal 1 1 (set 0 4 green ++ set 0 4 green) [] ∷ refusal 1 1 (green ++ set 0 5 green ++ set 0 5 green) [] ∷ []
+    ∷ (oneByOne (set 0 4 green ++ set 0 4 green) [] ∷ oneByOne (green ++ set 0 5 green ++ set 0 5 green) [] ∷ []
     is 3 ∷ 3 ∷ [])
     -- 4 before 5, 5 before 6, 6 before 7
-    ∷ (refusal 1 1 (green
-    ++ recordOf 2 1 0 0 0) [] ∷ refusal 1 1 (recordOf 0 1 0 9 9) [] ∷ refusal 1 1 (recordOf 0 2 0 9 8) [] ∷ []
+    ∷ (oneByOne (green ++ recordOf 2 1 0 0 0) [] ∷ oneByOne (recordOf 0 1 0 9 9) [] ∷ oneByOne (recordOf 0 2 0 9 8) []
+    ∷ []
     is 4 ∷ 5 ∷ 6 ∷ [])
     -- tests 3 to 7 on each record in turn: the first record's 7 before the second's 3
-    ∷ (refusal 1 1 (recordOf 0 2 0 1 4 ++ set 0 4 green) (zeros 1) ∷ refusal 1 1 (recordOf 0 2 0 0 8 ++ green
-    ++ green) (zeros 1) ∷ []
+    ∷ (oneByOne (recordOf 0 2 0 1 4 ++ set 0 4 green) (zeros 1)
+    ∷ oneByOne (recordOf 0 2 0 0 8 ++ green ++ green) (zeros 1) ∷ []
     is 7 ∷ 6 ∷ [])
     -- bits 2 to 9 of predictor and color, 0 of the other kinds
-    ∷ (refusal 1 1 (set 1 1 predictor) (zeros 1) ∷ refusal 1 1 (set 1 9 predictor) (zeros 1)
-    ∷ refusal 1 1 (set 1 10 predictor) (zeros 1) ∷ []
+    ∷ (oneByOne (set 1 1 predictor) (zeros 1) ∷ oneByOne (set 1 9 predictor) (zeros 1)
+    ∷ oneByOne (set 1 10 predictor) (zeros 1) ∷ []
     is 5 ∷ 8 ∷ 5 ∷ [])
-    ∷ (refusal 1 1 (set 1 1 color) (zeros 1) ∷ refusal 1 1 (set 1 9 color) (zeros 1)
-    ∷ refusal 1 1 (set 1 10 color) (zeros 1) ∷ []
+    ∷ (oneByOne (set 1 1 color) (zeros 1) ∷ oneByOne (set 1 9 color) (zeros 1) ∷ oneByOne (set 1 10 color) (zeros 1)
+    ∷ []
     is 5 ∷ 8 ∷ 5 ∷ [])
     -- size 1 to 256
-    ∷ (refusal 1 1 (table 0) [] ∷ refusal 1 1 (set 3 1 (set 9 4 (table 0))) (zeros 256)
-    ∷ refusal 1 1 (set 3 1 (set 9 4 (table 1))) (zeros 257) ∷ []
+    ∷ (oneByOne (table 0) [] ∷ oneByOne (set 3 1 (set 9 4 (table 0))) (zeros 256)
+    ∷ oneByOne (set 3 1 (set 9 4 (table 1))) (zeros 257) ∷ []
     is 5 ∷ 8 ∷ 5 ∷ [])
     -- length: bx from the width, by from the height, each rounded up
     ∷ (refusal 5 9 (recordOf 0 2 0 0 24) (zeros 6) ∷ refusal 5 9 (recordOf 0 2 0 0 20) (zeros 6)
@@ -102,15 +88,15 @@ worked =
     ∷ refusal 16384 16384 (set 11 4 (recordOf 1 2 0 0 0)) [] ∷ []
     is 7 ∷ 7 ∷ 7 ∷ [])
     -- offset + length may reach the data's end
-    ∷ (refusal 1 1 (recordOf 0 2 0 4 4) (zeros 2) ∷ refusal 1 1 (recordOf 0 2 0 5 4) (zeros 2)
-    ∷ refusal 1 1 (recordOf 0 2 0 4 4) (bytes 7) ∷ []
+    ∷ (oneByOne (recordOf 0 2 0 4 4) (zeros 2) ∷ oneByOne (recordOf 0 2 0 5 4) (zeros 2)
+    ∷ oneByOne (recordOf 0 2 0 4 4) (bytes 7) ∷ []
     is 8 ∷ 7 ∷ 7 ∷ [])
     -- current width: after a table the packed one, before it the picture's
-    ∷ (refusal 33 1 (table 2 ++ recordOf 0 2 0 0 8) (zeros 2) ∷ refusal 32 1 (table 2
-    ++ recordOf 0 2 0 0 8) (zeros 2) ∷ refusal 32 1 (table 2 ++ predictor) (zeros 2) ∷ []
+    ∷ (refusal 33 1 (table 2 ++ recordOf 0 2 0 0 8) (zeros 2) ∷ refusal 32 1 (table 2 ++ recordOf 0 2 0 0 8) (zeros 2)
+    ∷ refusal 32 1 (table 2 ++ predictor) (zeros 2) ∷ []
     is 8 ∷ 6 ∷ 8 ∷ [])
-    ∷ (refusal 5 1 (recordOf 0 2 0 0 8 ++ table 2) (zeros 2) ∷ refusal 5 1 (recordOf 0 2 0 0 8 ++ green ++ table 2
-    ++ color) (zeros 2) ∷ []
+    ∷ (refusal 5 1 (recordOf 0 2 0 0 8 ++ table 2) (zeros 2)
+    ∷ refusal 5 1 (recordOf 0 2 0 0 8 ++ green ++ table 2 ++ color) (zeros 2) ∷ []
     is 8 ∷ 8 ∷ [])
     -- 8: a picture has 4 × width × height bytes, a strip 4 × the last width × height
     ∷ (rebuildAnswer 3 2 (table 5) (reds 5) (zeros 6) ∷ rebuildAnswer 3 2 (table 5) (reds 5) (bytes 23) ∷ []
@@ -130,39 +116,6 @@ worked =
     ∷ storeAnswer 3 2 (table 5) (reds 5) (inRed (5 ∷ 1 ∷ 2 ∷ 3 ∷ 4 ∷ 0 ∷ [])) (zeros 4)
     ∷ storeAnswer 3 2 (table 5) (reds 5) (inRed (0 ∷ 1 ∷ 2 ∷ 3 ∷ 4 ∷ 0 ∷ 5 ∷ [])) (zeros 4) ∷ []
     is 21 ∷ 21 ∷ 0 ∷ [])
-    -- an empty chain copies; bytes beyond are kept
-    ∷ (rebuildImage 1 1 [] [] (1 ∷ 2 ∷ 3 ∷ 4 ∷ 5 ∷ []) is 1 ∷ 2 ∷ 3 ∷ 4 ∷ 5 ∷ [])
-    ∷ (storeStrip 1 1 [] [] (1 ∷ 2 ∷ 3 ∷ 4 ∷ 5 ∷ []) (nines 2) is 1 ∷ 2 ∷ 3 ∷ 4 ∷ 9 ∷ 9 ∷ 9 ∷ 9 ∷ [])
-    -- the part of the data starts at offset, of which two bytes are used here
-    ∷ (storeStrip 2 2 (recordOf 0 2 0 8 4) (inGreen (1 ∷ 2 ∷ 4 ∷ [])) small (zeros 4)
-    is residues (1 ∷ 1 ∷ 3 ∷ 8 ∷ []))
-    ∷ (storeStrip 2 2 (set 5 1 predictor) (bytes 256 ++ mode 2) small (zeros 4) is residues (1 ∷ 1 ∷ 3 ∷ 7 ∷ []))
-    -- two records: storing does the first one first, rebuilding the last one first (deltas are rounded, so the order shows)
-    ∷ (storeStrip 2 1 (predictor ++ color) shared two (zeros 2) is 219 ∷ 40 ∷ 225 ∷ 2 ∷ 64 ∷ 110 ∷ 200 ∷ 5 ∷ [])
-    ∷ (storeStrip 2 1 (color ++ predictor) shared two (zeros 2) is 219 ∷ 40 ∷ 225 ∷ 2 ∷ 104 ∷ 110 ∷ 7 ∷ 5 ∷ [])
-    ∷ (rebuildImage 2 1 (predictor ++ color) shared two is 55 ∷ 40 ∷ 188 ∷ 0 ∷ 132 ∷ 190 ∷ 175 ∷ 6 ∷ [])
-    ∷ (rebuildImage 2 1 (color ++ predictor) shared two is 55 ∷ 40 ∷ 188 ∷ 0 ∷ 132 ∷ 190 ∷ 144 ∷ 6 ∷ [])
-    ∷ (storeStrip 2 1 (color ++ green) shared two (zeros 2) is 179 ∷ 40 ∷ 185 ∷ 1 ∷ 173 ∷ 150 ∷ 82 ∷ 6 ∷ [])
-    -- the table before the predictor: 4 by 2 with two indices to a record is 2 by 2 there, mode 2 (table and mode share the data)
-    ∷ (storeStrip 4 2 (table 5 ++ recordOf 0 2 0 20 4) (reds 5
-    ++ mode 2) (inRed (1 ∷ 2 ∷ 3 ∷ 4 ∷ 4 ∷ 0 ∷ 3 ∷ 1 ∷ [])) (zeros 4)
-    is 0 ∷ 33 ∷ 0 ∷ 0 ∷ 0 ∷ 34 ∷ 0 ∷ 0 ∷ 0 ∷ 227 ∷ 0 ∷ 0 ∷ 0 ∷ 208 ∷ 0 ∷ 0 ∷ [])
-    ∷ (rebuildImage 4 2 (table 5 ++ recordOf 0 2 0 20 4) (reds 5 ++ mode 2) (0 ∷ 33 ∷ 0 ∷ 0 ∷ 0 ∷ 34 ∷ 0 ∷ 0 ∷ 0 ∷ 227
-    ∷ 0 ∷ 0 ∷ 0 ∷ 208 ∷ 0 ∷ 0 ∷ 5 ∷ 5 ∷ 5 ∷ 5 ∷ 5 ∷ 5 ∷ 5 ∷ 5 ∷ 5 ∷ 5 ∷ 5 ∷ 5 ∷ 5 ∷ 5 ∷ 5 ∷ 5 ∷ [])
-    is inRed (1 ∷ 2 ∷ 3 ∷ 4 ∷ 4 ∷ 0 ∷ 3 ∷ 1 ∷ []))
-    -- the predictor before the table: the residuals are what is indexed
-    ∷ (storeStrip 4 2 (recordOf 0 2 0 12 4 ++ table 3) (residues (0 ∷ 1 ∷ 255 ∷ [])
-    ++ mode 1) (inRed (1 ∷ 2 ∷ 2 ∷ 1 ∷ 0 ∷ 0 ∷ 1 ∷ 0 ∷ [])) (zeros 2)
-    is inGreen (133 ∷ 146 ∷ []))
-    ∷ (rebuildImage 4 2 (recordOf 0 2 0 12 4 ++ table 3) (residues (0 ∷ 1 ∷ 255 ∷ [])
-    ++ mode 1) (inGreen (133 ∷ 146 ∷ 0 ∷ 0 ∷ 0 ∷ 0 ∷ 0 ∷ 0 ∷ []))
-    is inRed (1 ∷ 2 ∷ 2 ∷ 1 ∷ 0 ∷ 0 ∷ 1 ∷ 0 ∷ []))
-    -- all four kinds
-    ∷ (storeStrip 2 2 allKinds allData (2 ∷ 2 ∷ 2 ∷ 255 ∷ 2 ∷ 2 ∷ 2 ∷ 255 ∷ 3 ∷ 3 ∷ 3 ∷ 255 ∷ 3 ∷ 3 ∷ 3 ∷ 254
-    ∷ []) (nines 3)
-    is inGreen (1 ∷ 14 ∷ []) ++ nines 1)
-    ∷ (rebuildImage 2 2 allKinds allData (inGreen (16 ∷ 7 ∷ 0 ∷ 0 ∷ []))
-    is blacks 2 ++ (1 ∷ 1 ∷ 1 ∷ 254 ∷ 2 ∷ 2 ∷ 2 ∷ 255 ∷ []))
     ∷ []
 
 pub known-refusals : map (λ (l : Line). l .computed) worked ≡ map (λ (l : Line). l .expected) worked

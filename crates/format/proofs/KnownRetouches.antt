@@ -115,13 +115,12 @@ worked =
     ∷ (retouchPicture 3 2 predictor (mode 1) (blacks 7) (zeros 6) 2 1 (pixel 1 2 3 4)
     is blacks 5 ++ (1 ∷ 2 ∷ 3 ∷ 4 ∷ []) ++ blacks 1)
     ∷ (retouchAnswer 3 2 [] [] (blacks 6) (zeros 6) 3 0 black ∷ retouchAnswer 3 2 [] [] (blacks 6) (zeros 6) 0 2 black
-    ∷ retouchAnswer 3 2 [] [] (blacks 6) (zeros 6) 2 1 black
-    ∷ retouchAnswer 3 2 [] [] (blacks 6) (zeros 5) 3 2 black
+    ∷ retouchAnswer 3 2 [] [] (blacks 6) (zeros 6) 2 1 black ∷ retouchAnswer 3 2 [] [] (blacks 6) (zeros 5) 3 2 black
     ∷ retouchAnswer 3 2 [] [] (blacks 5) (zeros 6) 3 2 black ∷ []
     is 9 ∷ 9 ∷ 289 ∷ 8 ∷ 8 ∷ [])
     -- 1 to 7 before 8, and a refusal changes no byte
-    ∷ (retouchAnswer 3 0 [] [] (blacks 6) (zeros 6) 0 0 black ∷ retouchAnswer 3 2 (green
-    ++ green) [] [] [] 0 0 black ∷ []
+    ∷ (retouchAnswer 3 0 [] [] (blacks 6) (zeros 6) 0 0 black ∷ retouchAnswer 3 2 (green ++ green) [] [] [] 0 0 black
+    ∷ []
     is 1 ∷ 4 ∷ [])
     ∷ (retouchPicture 3 2 [] [] (blacks 6) (zeros 6) 0 2 (red 1) is blacks 6)
     ∷ (retouchStrip 3 2 [] [] (blacks 6) (zeros 6) 0 2 (red 1) is zeros 6)
@@ -184,10 +183,10 @@ worked =
     ∷ (lackingIn 1 4 1 is 8 ∷ 9 ∷ 11 ∷ [])
     ∷ (lackingIn 14 4 1 is 11 ∷ [])
     -- the predictor before the table: the residuals of a spot's record count, and no others
-    ∷ (retouchAnswer 4 2 (recordOf 0 2 0 12 4 ++ table 3) (residues (0 ∷ 1 ∷ 255 ∷ []) ++ mode 1) (inRed (0 ∷ 0 ∷ 0
-    ∷ 0 ∷ 0 ∷ 0 ∷ 0 ∷ 5 ∷ [])) (zeros 2) 0 0 (red 1) ∷ retouchAnswer 4 2 (recordOf 0 2 0 12 4
-    ++ table 3) (residues (0 ∷ 1 ∷ 255 ∷ [])
-    ++ mode 1) (inRed (5 ∷ 0 ∷ 0 ∷ 0 ∷ 0 ∷ 0 ∷ 0 ∷ 0 ∷ [])) (zeros 2) 3 1 (red 1) ∷ []
+    ∷ (retouchAnswer 4 2 (recordOf 0 2 0 12 4 ++ table 3) (residues (0 ∷ 1 ∷ 255 ∷ []) ++ mode 1)
+    (inRed (0 ∷ 0 ∷ 0 ∷ 0 ∷ 0 ∷ 0 ∷ 0 ∷ 5 ∷ [])) (zeros 2) 0 0 (red 1) ∷ retouchAnswer 4 2
+    (recordOf 0 2 0 12 4 ++ table 3) (residues (0 ∷ 1 ∷ 255 ∷ []) ++ mode 1)
+    (inRed (5 ∷ 0 ∷ 0 ∷ 0 ∷ 0 ∷ 0 ∷ 0 ∷ 0 ∷ [])) (zeros 2) 3 1 (red 1) ∷ []
     is 22 ∷ 22 ∷ [])
     -- a list of calls, by the call and by the desk: accepted, outside, without entry, the same again, back to black
     ∷ (answersTo theCall bothBuffers calls is 329 ∷ 9 ∷ 22 ∷ 256 ∷ 289 ∷ 329 ∷ [])

@@ -78,8 +78,8 @@ worked =
     is inRed (1 ∷ 20 ∷ 45 ∷ 90 ∷ 243 ∷ 205 ∷ 200 ∷ 221 ∷ 237 ∷ []))
     -- 5 by 5, bits 2: the four blocks have modes 1, 2, 4 and 3, by column and row
     ∷ (storeStrip 5 5 (recordOf 0 2 0 0 16) (inGreen (1 ∷ 2 ∷ 4 ∷ 3 ∷ [])) (reds 25) (zeros 25)
-    is residues (0 ∷ 1 ∷ 1 ∷ 1 ∷ 1 ∷ 5 ∷ 1 ∷ 1 ∷ 1 ∷ 5 ∷ 5 ∷ 1 ∷ 1 ∷ 1 ∷ 5 ∷ 5 ∷ 1 ∷ 1 ∷ 1 ∷ 5 ∷ 5 ∷ 6 ∷ 6 ∷ 6 ∷ 4
-    ∷ []))
+    is residues
+    (0 ∷ 1 ∷ 1 ∷ 1 ∷ 1 ∷ 5 ∷ 1 ∷ 1 ∷ 1 ∷ 5 ∷ 5 ∷ 1 ∷ 1 ∷ 1 ∷ 5 ∷ 5 ∷ 1 ∷ 1 ∷ 1 ∷ 5 ∷ 5 ∷ 6 ∷ 6 ∷ 6 ∷ 4 ∷ []))
     -- the mode is byte 1 of the data pixel
     ∷ (storeStrip 2 2 predictor (3 ∷ 2 ∷ 4 ∷ 1 ∷ []) (inRed (5 ∷ 6 ∷ 8 ∷ 20 ∷ [])) (zeros 4)
     is residues (5 ∷ 1 ∷ 3 ∷ 14 ∷ []))
@@ -110,15 +110,15 @@ worked =
     ∷ (rebuildImage 3 2 (table 5) (reds 5) (inGreen (20 ∷ 3 ∷ 2 ∷ 4 ∷ 7 ∷ 7 ∷ 8 ∷ []))
     is inRed (4 ∷ 1 ∷ 3 ∷ 2 ∷ 0 ∷ 4 ∷ []) ++ (0 ∷ 8 ∷ 0 ∷ 255 ∷ []))
     -- the index is in byte 1, lowest bits first; one at or past size gives (0, 0, 0, 0)
-    ∷ (rebuildImage 3 1 (table 2) (4 ∷ 3 ∷ 2 ∷ 1 ∷ 8 ∷ 7 ∷ 6 ∷ 5 ∷ []) (1 ∷ 6 ∷ 0 ∷ 0 ∷ 9 ∷ 9 ∷ 9 ∷ 9 ∷ 9 ∷ 9 ∷ 9 ∷ 9
-    ∷ [])
+    ∷ (rebuildImage 3 1 (table 2) (4 ∷ 3 ∷ 2 ∷ 1 ∷ 8 ∷ 7 ∷ 6 ∷ 5 ∷ [])
+    (1 ∷ 6 ∷ 0 ∷ 0 ∷ 9 ∷ 9 ∷ 9 ∷ 9 ∷ 9 ∷ 9 ∷ 9 ∷ 9 ∷ [])
     is (4 ∷ 3 ∷ 2 ∷ 1 ∷ []) ++ copies 2 (pixel 8 7 6 5))
     ∷ (rebuildImage 2 1 (table 17) (reds 17) (inGreen (16 ∷ 17 ∷ [])) is (16 ∷ 0 ∷ 0 ∷ 255 ∷ []) ++ zeros 1)
     -- of equal entries the lowest index; all four bytes count
     ∷ (storeStrip 4 1 (table 3) (inRed (7 ∷ 5 ∷ 7 ∷ [])) (inRed (7 ∷ 5 ∷ 7 ∷ 7 ∷ [])) (zeros 1)
     is 0 ∷ 4 ∷ 0 ∷ 255 ∷ [])
-    ∷ (storeStrip 4 1 (table 4) (1 ∷ 0 ∷ 0 ∷ 0 ∷ 0 ∷ 1 ∷ 0 ∷ 0 ∷ 0 ∷ 0 ∷ 1 ∷ 0 ∷ 0 ∷ 0 ∷ 0 ∷ 1 ∷ []) (0 ∷ 0 ∷ 0 ∷ 1
-    ∷ 0 ∷ 0 ∷ 1 ∷ 0 ∷ 0 ∷ 1 ∷ 0 ∷ 0 ∷ 1 ∷ 0 ∷ 0 ∷ 0 ∷ []) (zeros 1)
+    ∷ (storeStrip 4 1 (table 4) (1 ∷ 0 ∷ 0 ∷ 0 ∷ 0 ∷ 1 ∷ 0 ∷ 0 ∷ 0 ∷ 0 ∷ 1 ∷ 0 ∷ 0 ∷ 0 ∷ 0 ∷ 1 ∷ [])
+    (0 ∷ 0 ∷ 0 ∷ 1 ∷ 0 ∷ 0 ∷ 1 ∷ 0 ∷ 0 ∷ 1 ∷ 0 ∷ 0 ∷ 1 ∷ 0 ∷ 0 ∷ 0 ∷ []) (zeros 1)
     is 0 ∷ 27 ∷ 0 ∷ 255 ∷ [])
     -- the color map, front to back, and its undoing
     ∷ (adjustColorMap (1 ∷ 2 ∷ 3 ∷ 4 ∷ 10 ∷ 20 ∷ 30 ∷ 40 ∷ 200 ∷ 250 ∷ 0 ∷ 255 ∷ [])

@@ -33,4 +33,5 @@ pub mod Worked
 pub mod Known
 pub mod KnownTransforms
 pub mod KnownRefusals
+pub mod KnownChains
 pub mod KnownRetouches

@@ -7,6 +7,8 @@ use lib.ListN.{take}
 use Rattle.format.specs.Choice.{if_then_else_}
 use Rattle.format.specs.Indices.{among, union}
 use Rattle.format.specs.declared.Pixel.{Pixel}
+use Rattle.format.specs.declared.Made.{Made}
+use Rattle.format.specs.declared.Made.the-variants.{Item, Missing}
 use Rattle.format.specs.Byte.{delta}
 use Rattle.format.specs.Pixel.{pixel, black, each, each3}
 use Rattle.format.specs.Picture.{Picture, pixels, written, inOrder, block, writtenBytes}
@@ -14,15 +16,15 @@ use Rattle.format.specs.Predictor.{predict, select, predicted, residuals
 use Rattle.format.specs.Color.{transformColor, inverseColor, colorStored, colorRebuilt}
 use Rattle.format.specs.SubtractGreen.{greenStored, greenRebuilt}
 use Rattle.format.specs.ColorTable.{perPixel, indexIn, unpacked, lowest, digits, packed}
-use Rattle.format.specs.Chain.{recordAt, byKind, narrowed, widthAt}
+use Rattle.format.specs.Chain.{stepAt, recordAt, byKind, narrowed, widthAt}
 use Rattle.format.specs.Refusals.{tabled, tabledLength, checked, recordsRefusal, sizeRefusal, chainRefusal, inputRefusal}
 use Rattle.format.specs.Stages.{forward, backward, stored, rebuilt, takes, accepts}
-use Rattle.format.specs.Made.{namedBy, named, columns, madeOf, takesItem, missing}
+use Rattle.format.specs.Made.{madeItem, madeNumber, made, namedBy, named, columns, madeOf, takesItem, missing}
 use Rattle.format.specs.Retouch.{spotsOf, spotRecords, unmade, remade, newStrip, changes, pointAnswer}
 use Rattle.format.specs.Calls.{pairRefusal, rebuildAnswer, rebuildImage, storeAnswer, storeStrip, retouchAnswer, retouchPicture, retouchStrip}
 use Rattle.format.specs.Lists.{Machine, leftBy, inTurn, answersTo, acceptedCalls}
 use Rattle.format.specs.Desk.{Retouch, Buffers, desk, call, deskAnswer, deskHolds, callAnswer, callLeaves}
-use Rattle.format.proofs.Worked.{Line, _is_, copies, blacks, zeros, nines, inRed, residues, reds, inGreen, mode, recordOf, predictor, green, table, set}
+use Rattle.format.proofs.Worked.{Line, _is_, one, copies, blacks, zeros, nines, inRed, residues, reds, inGreen, mode, recordOf, predictor, green, table, set}
 
 abbrev red : ℕ → Pixel
 red v = pixel v 0 0 255
@@ -82,11 +84,19 @@ abbrev at : ℕ → ℕ → Pixel → Retouch
 at column row v = record { x = column; y = row; color = v }
 
 abbrev calls : List Retouch
-calls = at 3 0 (red 4) ∷ at 4 1 (red 1) ∷ at 1 0 (red 9) ∷ at 3 0 (red 4) ∷ at 2 1 (red 3) ∷ at 3 0 (red 0) ∷ []
+calls = at 3 0 (red 4) ∷ at 4 0 (red 9) ∷ at 1 0 (red 9) ∷ at 3 0 (red 4) ∷ at 2 1 (red 3) ∷ at 3 0 (red 0) ∷ []
 
 -- the reds of columns 1 and 3 of row 0 that the desk holds after n of them
 abbrev heldAfter : ℕ → ℕ
 heldAfter n = leftBy theDesk (pixels (blacks 8)) (take n calls) 1 .red + leftBy theDesk (pixels (blacks 8)) (take n calls) 3 .red
+
+-- making record r of 4 by 1 whose third pixel has no entry: the number, and the record
+abbrev making : ℕ → Made
+making r = madeItem (stepAt (table 5) 4) (reds 5) 1 (pixels (inRed (0 ∷ 1 ∷ 9 ∷ 2 ∷ []))) r
+
+abbrev itemOf : Made → List ℕ
+itemOf (Item v) = one v
+itemOf Missing = []
 
 abbrev columnsOf : List Retouch → List ℕ
 columnsOf cs = map (λ (c : Retouch). c .x) cs
@@ -149,8 +159,9 @@ worked =
     ∷ (retouchAnswer 4 1 (table 5) (reds 5) (inRed (0 ∷ 1 ∷ 9 ∷ 2 ∷ [])) (zeros 2) 3 0 (red 3)
     ∷ retouchAnswer 4 1 (table 5) (reds 5) (inRed (0 ∷ 1 ∷ 9 ∷ 2 ∷ [])) (zeros 2) 1 0 (red 3)
     ∷ retouchAnswer 4 1 (table 5) (reds 5) (inRed (0 ∷ 1 ∷ 9 ∷ 2 ∷ [])) (zeros 2) 0 0 (red 5)
-    ∷ retouchAnswer 4 1 (table 5) (reds 5) (inRed (0 ∷ 1 ∷ 9 ∷ 2 ∷ [])) (zeros 2) 4 0 (red 5) ∷ []
-    is 22 ∷ 289 ∷ 22 ∷ 9 ∷ [])
+    ∷ retouchAnswer 4 1 (table 5) (reds 5) (inRed (0 ∷ 1 ∷ 9 ∷ 2 ∷ [])) (zeros 2) 4 0 (red 5)
+    ∷ retouchAnswer 4 2 (table 5) (reds 5) (blacks 8) (zeros 4) 4 0 (red 9) ∷ []
+    is 22 ∷ 289 ∷ 22 ∷ 9 ∷ 9 ∷ [])
     ∷ (retouchPicture 4 1 (table 5) (reds 5) (inRed (0 ∷ 1 ∷ 9 ∷ 2 ∷ [])) (zeros 2) 0 0 (red 5)
     is inRed (0 ∷ 1 ∷ 9 ∷ 2 ∷ []))
     ∷ (retouchStrip 4 1 (table 5) (reds 5) (inRed (0 ∷ 1 ∷ 9 ∷ 2 ∷ [])) (zeros 2) 0 0 (red 5) is zeros 2)
@@ -170,12 +181,16 @@ worked =
     ∷ (naming 12 2 1 is 1 ∷ 2 ∷ 6 ∷ [])
     ∷ (naming 13 2 1 is 1 ∷ 2 ∷ 6 ∷ [])
     ∷ (naming 14 2 1 is [])
+    ∷ (naming 16 2 1 is [])
     ∷ (naming 255 2 1 is [])
     -- by the border rules: the first pixel names none, row 0 names L, column 0 names T; TR of the last column is column 0
     ∷ (naming 10 0 0 is [])
     ∷ (naming 10 2 0 is 1 ∷ [])
     ∷ (naming 10 0 2 is 5 ∷ [])
     ∷ (naming 3 4 1 is 5 ∷ [])
+    -- a record that can be made, and one that cannot
+    ∷ (madeNumber (making 0) ∷ madeNumber (making 1) ∷ [] is 0 ∷ 22 ∷ [])
+    ∷ (itemOf (making 0) ++ itemOf (making 1) is 0 ∷ 16 ∷ 0 ∷ 255 ∷ [])
     -- 22, the table before the predictor: of the first ten pixels of 5 by 3 these, lacking an entry, refuse a retouch of the middle one: 8 in
     -- a spot's record and, in mode 9, those that a spot's prediction names
     ∷ (lackingFor 9 is 2 ∷ 3 ∷ 4 ∷ 6 ∷ 8 ∷ 9 ∷ [])
@@ -200,5 +215,5 @@ worked =
     ∷ []
 
 pub known-retouches : map (λ (l : Line). l .computed) worked ≡ map (λ (l : Line). l .expected) worked
-unfolding delta each each3 pixels written inOrder block writtenBytes predict select predicted residuals gained transformColor inverseColor colorStored colorRebuilt greenStored greenRebuilt perPixel indexIn unpacked lowest digits packed recordAt byKind narrowed widthAt tabled tabledLength checked recordsRefusal sizeRefusal chainRefusal inputRefusal forward backward stored rebuilt takes accepts namedBy named columns madeOf takesItem missing spotsOf spotRecords unmade remade newStrip changes pointAnswer pairRefusal rebuildAnswer rebuildImage storeAnswer storeStrip retouchAnswer retouchPicture retouchStrip inTurn answersTo acceptedCalls deskAnswer deskHolds callAnswer callLeaves
+unfolding delta each each3 pixels written inOrder block writtenBytes predict select predicted residuals gained transformColor inverseColor colorStored colorRebuilt greenStored greenRebuilt perPixel indexIn unpacked lowest digits packed recordAt byKind narrowed widthAt tabled tabledLength checked recordsRefusal sizeRefusal chainRefusal inputRefusal forward backward stored rebuilt takes accepts made namedBy named columns madeOf takesItem missing spotsOf spotRecords unmade remade newStrip changes pointAnswer pairRefusal rebuildAnswer rebuildImage storeAnswer storeStrip retouchAnswer retouchPicture retouchStrip inTurn answersTo acceptedCalls deskAnswer deskHolds callAnswer callLeaves
 known-retouches = refl

@@ -18,10 +18,20 @@ use Rattle.format.specs.Stages.{forward, backward, stored, rebuilt, take
 use Rattle.format.specs.Calls.{pairRefusal, rebuildAnswer, rebuildImage, storeAnswer, storeStrip}
 use Rattle.format.proofs.Worked.{Line, _is_, one, copies, blacks, zeros, nines, bytes, inRed, residues, reds, inGreen, mode, recordOf, predictor, color, green, table}
 
--- what modes 0 to 14 and 255 predict from L, T, TR and TL
+-- what modes 0 to 14, 16, 128 and 255 predict from L, T, TR and TL
 abbrev allModes : Pixel → Pixel → Pixel → Pixel → List ℕ
 allModes l t tr tl =
-    union (λ m. one (predict m l t tr tl)) (0 ∷ 1 ∷ 2 ∷ 3 ∷ 4 ∷ 5 ∷ 6 ∷ 7 ∷ 8 ∷ 9 ∷ 10 ∷ 11 ∷ 12 ∷ 13 ∷ 14 ∷ 255 ∷ [])
+    union (λ m. one (predict m l t tr tl))
+    (0 ∷ 1 ∷ 2 ∷ 3 ∷ 4 ∷ 5 ∷ 6 ∷ 7 ∷ 8 ∷ 9 ∷ 10 ∷ 11 ∷ 12 ∷ 13 ∷ 14 ∷ 16 ∷ 128 ∷ 255 ∷ [])
+
+-- what mode 11 predicts in a channel where the others are 0, for each channel
+abbrev selects : ℕ → ℕ → ℕ → List ℕ
+selects l t tl =
+    predict 11 (pixel l 0 0 0) (pixel t 0 0 0) clear (pixel tl 0 0 0) .red
+    ∷ predict 11 (pixel 0 l 0 0) (pixel 0 t 0 0) clear (pixel 0 tl 0 0) .green
+    ∷ predict 11 (pixel 0 0 l 0) (pixel 0 0 t 0) clear (pixel 0 0 tl 0) .blue
+    ∷ predict 11 (pixel 0 0 0 l) (pixel 0 0 0 t) clear (pixel 0 0 0 tl) .alpha
+    ∷ []
 
 -- 3 by 3
 abbrev nine : List ℕ
@@ -44,23 +54,23 @@ worked =
     ∷ (delta 1 31 ∷ delta 1 32 ∷ delta 255 32 ∷ delta 255 33 ∷ delta 127 64 ∷ delta 128 1 ∷ delta 1 127 ∷ delta 1 128
     ∷ delta 200 100 ∷ []
     is 0 ∷ 1 ∷ 255 ∷ 254 ∷ 254 ∷ 252 ∷ 3 ∷ 252 ∷ 81 ∷ [])
-    -- modes 0 to 14 and 255, each channel by itself; select takes T, then L, then by one channel
+    -- modes 0 to 14, 16, 128 and 255, each channel by itself; select takes T, then L
     ∷ (allModes (pixel 10 200 0 33) (pixel 21 150 255 90) (pixel 40 7 128 64) (pixel 15 100 3 77)
     is 0 ∷ 0 ∷ 0 ∷ 255 ∷ 10 ∷ 200 ∷ 0 ∷ 33 ∷ 21 ∷ 150 ∷ 255 ∷ 90 ∷ 40 ∷ 7 ∷ 128 ∷ 64
     ∷ 15 ∷ 100 ∷ 3 ∷ 77 ∷ 23 ∷ 126 ∷ 159 ∷ 69 ∷ 12 ∷ 150 ∷ 1 ∷ 55 ∷ 15 ∷ 175 ∷ 127 ∷ 61
     ∷ 18 ∷ 125 ∷ 129 ∷ 83 ∷ 30 ∷ 78 ∷ 191 ∷ 77 ∷ 21 ∷ 114 ∷ 96 ∷ 66 ∷ 21 ∷ 150 ∷ 255 ∷ 90
-    ∷ 16 ∷ 250 ∷ 252 ∷ 46 ∷ 15 ∷ 212 ∷ 189 ∷ 53 ∷ 0 ∷ 0 ∷ 0 ∷ 0 ∷ 0 ∷ 0 ∷ 0 ∷ 0 ∷ [])
+    ∷ 16 ∷ 250 ∷ 252 ∷ 46 ∷ 15 ∷ 212 ∷ 189 ∷ 53 ∷ 0 ∷ 0 ∷ 0 ∷ 0 ∷ 0 ∷ 0 ∷ 0 ∷ 0
+    ∷ 0 ∷ 0 ∷ 0 ∷ 0 ∷ 0 ∷ 0 ∷ 0 ∷ 0 ∷ [])
     ∷ (allModes (pixel 100 9 250 1) (pixel 3 10 255 254) (pixel 0 255 6 8) (pixel 4 8 20 255)
     is 0 ∷ 0 ∷ 0 ∷ 255 ∷ 100 ∷ 9 ∷ 250 ∷ 1 ∷ 3 ∷ 10 ∷ 255 ∷ 254 ∷ 0 ∷ 255 ∷ 6 ∷ 8
     ∷ 4 ∷ 8 ∷ 20 ∷ 255 ∷ 26 ∷ 71 ∷ 191 ∷ 129 ∷ 52 ∷ 8 ∷ 135 ∷ 128 ∷ 51 ∷ 9 ∷ 252 ∷ 127
     ∷ 3 ∷ 9 ∷ 137 ∷ 254 ∷ 1 ∷ 132 ∷ 130 ∷ 131 ∷ 26 ∷ 70 ∷ 132 ∷ 129 ∷ 100 ∷ 9 ∷ 250 ∷ 1
-    ∷ 99 ∷ 11 ∷ 255 ∷ 0 ∷ 74 ∷ 9 ∷ 255 ∷ 63 ∷ 0 ∷ 0 ∷ 0 ∷ 0 ∷ 0 ∷ 0 ∷ 0 ∷ 0 ∷ [])
-    ∷ (one (predict 11 (pixel 10 0 0 0) (pixel 9 0 0 0) clear clear)
-    ++ one (predict 11 (pixel 0 10 0 0) (pixel 0 9 0 0) clear clear)
-    is 10 ∷ 0 ∷ 0 ∷ 0 ∷ 0 ∷ 10 ∷ 0 ∷ 0 ∷ [])
-    ∷ (one (predict 11 (pixel 0 0 10 0) (pixel 0 0 9 0) clear clear)
-    ++ one (predict 11 (pixel 0 0 0 10) (pixel 0 0 0 9) clear clear)
-    is 0 ∷ 0 ∷ 10 ∷ 0 ∷ 0 ∷ 0 ∷ 0 ∷ 10 ∷ [])
+    ∷ 99 ∷ 11 ∷ 255 ∷ 0 ∷ 74 ∷ 9 ∷ 255 ∷ 63 ∷ 0 ∷ 0 ∷ 0 ∷ 0 ∷ 0 ∷ 0 ∷ 0 ∷ 0
+    ∷ 0 ∷ 0 ∷ 0 ∷ 0 ∷ 0 ∷ 0 ∷ 0 ∷ 0 ∷ [])
+    -- select on each channel alone: L where T is nearer to TL than L is, else T
+    ∷ (selects 10 9 0 ++ selects 3 10 8 is 10 ∷ 10 ∷ 10 ∷ 10 ∷ 3 ∷ 3 ∷ 3 ∷ 3 ∷ [])
+    ∷ (selects 1 10 0 ++ selects 10 3 8 ++ selects 0 10 5
+    is 10 ∷ 10 ∷ 10 ∷ 10 ∷ 3 ∷ 3 ∷ 3 ∷ 3 ∷ 10 ∷ 10 ∷ 10 ∷ 10 ∷ [])
     -- mode 13: half of an odd difference goes toward zero on either side
     ∷ (one (predict 13 (pixel 20 21 9 8) (pixel 20 21 9 9) clear (pixel 17 16 10 13)) is 21 ∷ 23 ∷ 9 ∷ 6 ∷ [])
     -- 2 by 2, mode 0: the last pixel is predicted (0, 0, 0, 255)
@@ -92,6 +102,8 @@ worked =
     ∷ (storeStrip 1 5 (recordOf 1 2 0 0 8) twoBlocks (copies 5 (pixel 0 32 0 0)) (zeros 5)
     is copies 4 (pixel 224 32 0 0) ++ (192 ∷ 32 ∷ 0 ∷ 0 ∷ []))
     ∷ (rebuildImage 5 1 (recordOf 1 2 0 0 8) twoBlocks (copies 5 (pixel 0 32 0 0))
+    is copies 4 (pixel 32 32 0 0) ++ (64 ∷ 32 ∷ 0 ∷ 0 ∷ []))
+    ∷ (rebuildImage 1 5 (recordOf 1 2 0 0 8) twoBlocks (copies 5 (pixel 0 32 0 0))
     is copies 4 (pixel 32 32 0 0) ++ (64 ∷ 32 ∷ 0 ∷ 0 ∷ []))
     -- kind 2
     ∷ (storeStrip 1 1 green [] (4 ∷ 10 ∷ 9 ∷ 7 ∷ []) (zeros 1) is 250 ∷ 10 ∷ 255 ∷ 7 ∷ [])

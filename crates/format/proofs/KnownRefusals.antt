@@ -81,8 +81,8 @@ worked =
     ∷ refusal 5 9 (recordOf 0 2 0 0 16) (zeros 6) ∷ []
     is 8 ∷ 6 ∷ 6 ∷ [])
     ∷ (refusal 8 12 (recordOf 1 2 0 0 24) (zeros 6) ∷ refusal 16 1 (recordOf 1 3 0 0 8) (zeros 2)
-    ∷ refusal 17 1 (recordOf 1 3 0 0 8) (zeros 2) ∷ []
-    is 8 ∷ 8 ∷ 6 ∷ [])
+    ∷ refusal 17 1 (recordOf 1 3 0 0 8) (zeros 2) ∷ refusal 8 8 (recordOf 0 3 0 0 4) (zeros 1) ∷ []
+    is 8 ∷ 8 ∷ 6 ∷ 8 ∷ [])
     -- length, all four of its bytes: 64 blocks, 16384 and 4096 × 4096, with no data
     ∷ (refusal 256 1 (set 9 1 (recordOf 1 2 0 0 0)) [] ∷ refusal 16384 16 (set 10 1 (recordOf 1 2 0 0 0)) []
     ∷ refusal 16384 16384 (set 11 4 (recordOf 1 2 0 0 0)) [] ∷ []

@@ -90,6 +90,12 @@ worked =
     ∷ (storeStrip 5 5 (recordOf 0 2 0 0 16) (inGreen (1 ∷ 2 ∷ 4 ∷ 3 ∷ [])) (reds 25) (zeros 25)
     is residues
     (0 ∷ 1 ∷ 1 ∷ 1 ∷ 1 ∷ 5 ∷ 1 ∷ 1 ∷ 1 ∷ 5 ∷ 5 ∷ 1 ∷ 1 ∷ 1 ∷ 5 ∷ 5 ∷ 1 ∷ 1 ∷ 1 ∷ 5 ∷ 5 ∷ 6 ∷ 6 ∷ 6 ∷ 4 ∷ []))
+    -- 9 by 2, bits 3: column 8 is in the second block
+    ∷ (storeStrip 9 2 (recordOf 0 3 0 0 8) (inGreen (1 ∷ 2 ∷ [])) (reds 18) (zeros 18)
+    is residues (0 ∷ 1 ∷ 1 ∷ 1 ∷ 1 ∷ 1 ∷ 1 ∷ 1 ∷ 1 ∷ 9 ∷ 1 ∷ 1 ∷ 1 ∷ 1 ∷ 1 ∷ 1 ∷ 1 ∷ 9 ∷ []))
+    ∷ (rebuildImage 9 2 (recordOf 0 3 0 0 8) (inGreen (1 ∷ 2 ∷ []))
+    (residues (0 ∷ 1 ∷ 1 ∷ 1 ∷ 1 ∷ 1 ∷ 1 ∷ 1 ∷ 1 ∷ 9 ∷ 1 ∷ 1 ∷ 1 ∷ 1 ∷ 1 ∷ 1 ∷ 1 ∷ 9 ∷ []))
+    is inRed (0 ∷ 1 ∷ 2 ∷ 3 ∷ 4 ∷ 5 ∷ 6 ∷ 7 ∷ 8 ∷ 9 ∷ 10 ∷ 11 ∷ 12 ∷ 13 ∷ 14 ∷ 15 ∷ 16 ∷ 17 ∷ []))
     -- the mode is byte 1 of the data pixel
     ∷ (storeStrip 2 2 predictor (3 ∷ 2 ∷ 4 ∷ 1 ∷ []) (inRed (5 ∷ 6 ∷ 8 ∷ 20 ∷ [])) (zeros 4)
     is residues (5 ∷ 1 ∷ 3 ∷ 14 ∷ []))

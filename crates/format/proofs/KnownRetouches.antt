@@ -47,6 +47,11 @@ wrongOnes = map (λ (r : ℕ). answerOver (set (4 * r + 3) 77 after)) (0 ∷ 1 �
 abbrev residualTable : List ℕ
 residualTable = residues (0 ∷ 1 ∷ 255 ∷ []) ++ inGreen (1 ∷ 1 ∷ [])
 
+-- 4 by 2, the predictor of mode 1 before a table of the residuals 0, 1 and 255: a pixel painted with red 1
+abbrev residualsOver : List ℕ → ℕ → ℕ → ℕ
+residualsOver picture x y =
+    retouchAnswer 4 2 (recordOf 0 2 0 12 4 ++ table 3) (residues (0 ∷ 1 ∷ 255 ∷ []) ++ mode 1) picture (zeros 2) x y (red 1)
+
 -- those of the first n pixels of a black picture that refuse a retouch by 22 where they have no entry
 abbrev lacking : ℕ → (List ℕ → ℕ) → List ℕ
 lacking zero answer = []
@@ -57,7 +62,8 @@ lacking (suc n) answer =
 abbrev lackingFor : ℕ → List ℕ
 lackingFor m =
     lacking 10
-    (λ picture. retouchAnswer 5 3 (table 17 ++ recordOf 0 2 0 68 8) (reds 17 ++ inGreen (m ∷ m ∷ [])) picture (zeros 15) 2 1 black)
+    (λ picture.
+    retouchAnswer 5 3 (table 17 ++ recordOf 0 2 0 68 8) (reds 17 ++ inGreen (m ∷ m ∷ [])) picture (zeros 15) 2 1 black)
 
 -- those of the pixels of 5 by 3 that the prediction of column x of row y names, where both blocks have mode m
 abbrev naming : ℕ → ℕ → ℕ → List ℕ
@@ -68,9 +74,11 @@ naming m x y =
 -- 6 by 2, a table of 5 reds before the predictor
 abbrev lackingIn : ℕ → ℕ → ℕ → List ℕ
 lackingIn m x y =
-    lacking 12 (λ picture. retouchAnswer 6 2 (table 5 ++ recordOf 0 2 0 20 4) (reds 5 ++ mode m) picture (zeros 6) x y black)
+    lacking 12
+    (λ picture. retouchAnswer 6 2 (table 5 ++ recordOf 0 2 0 20 4) (reds 5 ++ mode m) picture (zeros 6) x y black)
 
--- on 4 by 2, a table of 5 reds before the predictor of mode 10: the call and the desk, buffers with a record beyond, and calls
+-- on 4 by 2, a table of 5 reds before the predictor of mode 10: the call and the desk, buffers with a record beyond,
+-- and calls
 abbrev theCall : Machine Buffers Retouch
 theCall = call 4 2 (table 5 ++ recordOf 0 2 0 20 4) (reds 5 ++ mode 10)
 
@@ -88,11 +96,15 @@ calls = at 3 0 (red 4) ∷ at 4 0 (red 9) ∷ at 1 0 (red 9) ∷ at 3 0 (red 4) 
 
 -- the reds of columns 1 and 3 of row 0 that the desk holds after n of them
 abbrev heldAfter : ℕ → ℕ
-heldAfter n = leftBy theDesk (pixels (blacks 8)) (take n calls) 1 .red + leftBy theDesk (pixels (blacks 8)) (take n calls) 3 .red
+heldAfter n =
+    leftBy theDesk (pixels (blacks 8)) (take n calls) 1 .red + leftBy theDesk (pixels (blacks 8)) (take n calls) 3 .red
 
--- making record r of 4 by 1 whose third pixel has no entry: the number, and the record
+-- 4 by 1, of which the third pixel has no entry; making record r of it
+abbrev gap : List ℕ
+gap = inRed (0 ∷ 1 ∷ 9 ∷ 2 ∷ [])
+
 abbrev making : ℕ → Made
-making r = madeItem (stepAt (table 5) 4) (reds 5) 1 (pixels (inRed (0 ∷ 1 ∷ 9 ∷ 2 ∷ []))) r
+making r = madeItem (stepAt (table 5) 4) (reds 5) 1 (pixels gap) r
 
 abbrev itemOf : Made → List ℕ
 itemOf (Item v) = one v
@@ -156,15 +168,14 @@ worked =
     ∷ (retouchStrip 6 2 (table 5 ++ recordOf 0 2 0 20 4) (reds 5 ++ mode 10) (blacks 12) (zeros 6) 3 0 (red 4)
     is zeros 1 ++ (0 ∷ 64 ∷ 0 ∷ 0 ∷ 0 ∷ 192 ∷ 0 ∷ 0 ∷ []) ++ zeros 1 ++ copies 2 (pixel 0 240 0 0))
     -- 22: a pixel without entry in the record, painted or standing there; 9 before 22; the other records do not count
-    ∷ (retouchAnswer 4 1 (table 5) (reds 5) (inRed (0 ∷ 1 ∷ 9 ∷ 2 ∷ [])) (zeros 2) 3 0 (red 3)
-    ∷ retouchAnswer 4 1 (table 5) (reds 5) (inRed (0 ∷ 1 ∷ 9 ∷ 2 ∷ [])) (zeros 2) 1 0 (red 3)
-    ∷ retouchAnswer 4 1 (table 5) (reds 5) (inRed (0 ∷ 1 ∷ 9 ∷ 2 ∷ [])) (zeros 2) 0 0 (red 5)
-    ∷ retouchAnswer 4 1 (table 5) (reds 5) (inRed (0 ∷ 1 ∷ 9 ∷ 2 ∷ [])) (zeros 2) 4 0 (red 5)
+    ∷ (retouchAnswer 4 1 (table 5) (reds 5) gap (zeros 2) 3 0 (red 3)
+    ∷ retouchAnswer 4 1 (table 5) (reds 5) gap (zeros 2) 1 0 (red 3)
+    ∷ retouchAnswer 4 1 (table 5) (reds 5) gap (zeros 2) 0 0 (red 5)
+    ∷ retouchAnswer 4 1 (table 5) (reds 5) gap (zeros 2) 4 0 (red 5)
     ∷ retouchAnswer 4 2 (table 5) (reds 5) (blacks 8) (zeros 4) 4 0 (red 9) ∷ []
     is 22 ∷ 289 ∷ 22 ∷ 9 ∷ 9 ∷ [])
-    ∷ (retouchPicture 4 1 (table 5) (reds 5) (inRed (0 ∷ 1 ∷ 9 ∷ 2 ∷ [])) (zeros 2) 0 0 (red 5)
-    is inRed (0 ∷ 1 ∷ 9 ∷ 2 ∷ []))
-    ∷ (retouchStrip 4 1 (table 5) (reds 5) (inRed (0 ∷ 1 ∷ 9 ∷ 2 ∷ [])) (zeros 2) 0 0 (red 5) is zeros 2)
+    ∷ (retouchPicture 4 1 (table 5) (reds 5) gap (zeros 2) 0 0 (red 5) is inRed (0 ∷ 1 ∷ 9 ∷ 2 ∷ []))
+    ∷ (retouchStrip 4 1 (table 5) (reds 5) gap (zeros 2) 0 0 (red 5) is zeros 2)
     -- the pixels of 5 by 3 that the prediction of the middle one, 7, names: L is 6, T is 2, TR is 3, TL is 1
     ∷ (naming 0 2 1 is [])
     ∷ (naming 1 2 1 is 6 ∷ [])
@@ -191,18 +202,17 @@ worked =
     -- a record that can be made, and one that cannot
     ∷ (madeNumber (making 0) ∷ madeNumber (making 1) ∷ [] is 0 ∷ 22 ∷ [])
     ∷ (itemOf (making 0) ++ itemOf (making 1) is 0 ∷ 16 ∷ 0 ∷ 255 ∷ [])
-    -- 22, the table before the predictor: of the first ten pixels of 5 by 3 these, lacking an entry, refuse a retouch of the middle one: 8 in
-    -- a spot's record and, in mode 9, those that a spot's prediction names
+    -- 22, the table before the predictor: of the first ten pixels of 5 by 3 these, lacking an entry, refuse a retouch of the
+    -- middle one: 8 in a spot's record and, in mode 9, those that a spot's prediction names
     ∷ (lackingFor 9 is 2 ∷ 3 ∷ 4 ∷ 6 ∷ 8 ∷ 9 ∷ [])
     -- two indices to a record: mode 1 names the packed pixel on the left, with both its pixels; mode 14 none
     ∷ (lackingIn 1 4 1 is 8 ∷ 9 ∷ 11 ∷ [])
     ∷ (lackingIn 14 4 1 is 11 ∷ [])
-    -- the predictor before the table: the residuals of a spot's record count, and no others
-    ∷ (retouchAnswer 4 2 (recordOf 0 2 0 12 4 ++ table 3) (residues (0 ∷ 1 ∷ 255 ∷ []) ++ mode 1)
-    (inRed (0 ∷ 0 ∷ 0 ∷ 0 ∷ 0 ∷ 0 ∷ 0 ∷ 5 ∷ [])) (zeros 2) 0 0 (red 1) ∷ retouchAnswer 4 2
-    (recordOf 0 2 0 12 4 ++ table 3) (residues (0 ∷ 1 ∷ 255 ∷ []) ++ mode 1)
-    (inRed (5 ∷ 0 ∷ 0 ∷ 0 ∷ 0 ∷ 0 ∷ 0 ∷ 0 ∷ [])) (zeros 2) 3 1 (red 1) ∷ []
-    is 22 ∷ 22 ∷ [])
+    -- the predictor before the table: the residuals of a spot's record count, those of row 0's record not for a spot in row 1
+    ∷ (residualsOver (inRed (0 ∷ 0 ∷ 0 ∷ 0 ∷ 0 ∷ 0 ∷ 0 ∷ 5 ∷ [])) 0 0
+    ∷ residualsOver (inRed (5 ∷ 0 ∷ 0 ∷ 0 ∷ 0 ∷ 0 ∷ 0 ∷ 0 ∷ [])) 3 1
+    ∷ residualsOver (inRed (0 ∷ 0 ∷ 0 ∷ 5 ∷ 0 ∷ 0 ∷ 0 ∷ 0 ∷ [])) 3 1 ∷ []
+    is 22 ∷ 22 ∷ 289 ∷ [])
     -- a list of calls, by the call and by the desk: accepted, outside, without entry, the same again, back to black
     ∷ (answersTo theCall bothBuffers calls is 329 ∷ 9 ∷ 22 ∷ 256 ∷ 289 ∷ 329 ∷ [])
     ∷ (answersTo theDesk (pixels (blacks 8)) calls is 329 ∷ 9 ∷ 22 ∷ 256 ∷ 289 ∷ 329 ∷ [])

@@ -56,7 +56,8 @@ mode m = inGreen (m ∷ [])
 
 -- a record of a chain: kind, bits, size, offset and length, each in one byte
 abbrev pub recordOf : ℕ → ℕ → ℕ → ℕ → ℕ → List ℕ
-recordOf kind bits size offset bytes = kind ∷ bits ∷ size ∷ 0 ∷ offset ∷ 0 ∷ 0 ∷ 0 ∷ bytes ∷ 0 ∷ 0 ∷ 0 ∷ 0 ∷ 0 ∷ 0 ∷ 0 ∷ []
+recordOf kind bits size offset bytes =
+    kind ∷ bits ∷ size ∷ 0 ∷ offset ∷ 0 ∷ 0 ∷ 0 ∷ bytes ∷ 0 ∷ 0 ∷ 0 ∷ 0 ∷ 0 ∷ 0 ∷ 0 ∷ []
 
 -- its part starts at the data's front
 abbrev pub chainOf : ℕ → ℕ → ℕ → ℕ → List ℕ

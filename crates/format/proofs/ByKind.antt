@@ -10,7 +10,7 @@ use Rattle.format.specs.Picture.{Picture}
 use Rattle.format.specs.Predictor.{residuals, fromResiduals}
 use Rattle.format.specs.Color.{colorStored, colorRebuilt}
 use Rattle.format.specs.SubtractGreen.{greenStored, greenRebuilt}
-use Rattle.format.specs.ColorTable.{packed, unpacked, accepted, packedWidth}
+use Rattle.format.specs.ColorTable.{packed, unpacked, haveEntries, packedWidth}
 use Rattle.format.specs.Chain.{byKind, narrowed}
 use Rattle.format.specs.Stages.{partOf, forward, backward, takes}
 
@@ -80,7 +80,7 @@ module _ (s : Step) (h : ℕ) (ds : List ℕ) (g : Picture) where
   backward-3 e = byKind-3 _ _ _ _ (s .kind) e
 
   -- a table's record takes what the table accepts
-  pub takes-table : s .kind ≡ 3 → takes s h ds g ≡ accepted (s .size) (partOf s ds) (h * s .width) g
+  pub takes-table : s .kind ≡ 3 → takes s h ds g ≡ haveEntries (s .size) (partOf s ds) (h * s .width) g
   unfolding takes
   takes-table e = rw e
 

@@ -10,7 +10,7 @@ use Rattle.format.specs.Picture.{Picture}
 use Rattle.format.specs.Predictor.{predicted, residuals, fromResiduals}
 use Rattle.format.specs.Color.{transformColor, inverseColor, colorStored, colorRebuilt}
 use Rattle.format.specs.SubtractGreen.{greenStored, greenRebuilt}
-use Rattle.format.specs.ColorTable.{packedWidth, accepted, packed}
+use Rattle.format.specs.ColorTable.{packedWidth, haveEntries, packed}
 use Rattle.format.proofs.Byte.{add-byte, sub-byte}
 use Rattle.format.proofs.Pixels.{Bytes}
 use Rattle.format.proofs.Predictor.{rebuilt-at}
@@ -59,6 +59,6 @@ module _ (n : ℕ) (f : Picture) (bytes : BytesIn n f) where
 
 -- color table
 
-pub packed-bytes : (w h size : ℕ) (e f : Picture) → 0 < w → size ≤ 256 → accepted size e (h * w) f ≡ true → BytesIn (h * packedWidth size w) (packed w size e f)
+pub packed-bytes : (w h size : ℕ) (e f : Picture) → 0 < w → size ≤ 256 → haveEntries size e (h * w) f ≡ true → BytesIn (h * packedWidth size w) (packed w size e f)
 unfolding packed
 packed-bytes w h size e f pos least taken r l = record { red = lit< tt; green = packed-byte w h size e f pos least taken r l; blue = lit< tt; alpha = lit< tt }

@@ -9,7 +9,7 @@ use lib.ListN.{length}
 use Rattle.format.specs.declared.Step.{Step}
 use Rattle.format.specs.Picture.{Picture}
 use Rattle.format.specs.Chain.{recordAt, narrowed, widthAt, stepAt, count}
-use Rattle.format.specs.Refusals.{chainRefusal}
+use Rattle.format.specs.Refusals.{inputRefusal}
 use Rattle.format.specs.Stages.{partOf, forward, backward, stored, rebuilt, takes, accepts}
 use Rattle.format.specs.ValidStep.{ValidStep}
 use Rattle.format.proofs.Choice.{and-left, and-right, and-both}
@@ -74,15 +74,15 @@ module _ (s : Step) (h : ℕ) (ds : List ℕ) (pos : 1 ≤ s .width) (known : s 
 
 -- chains that accept the picture
 
-module _ (w h : ℕ) (cs ds : List ℕ) (valid : chainRefusal w h cs (length ds) ≡ 0) (f : Picture) (bytes : BytesIn (h * w) f) where
+module _ (w h : ℕ) (cs ds : List ℕ) (valid : inputRefusal w h cs ds ≡ 0) (f : Picture) (bytes : BytesIn (h * w) f) where
   abbrev wide : 1 ≤ w
-  wide = valid-sized w h cs (length ds) valid .wide
+  wide = valid-sized w h cs ds valid .wide
 
   pub stored-bytes : (k : ℕ) → k ≤ count cs → accepts (stepAt cs w) h ds k f ≡ true → BytesIn (h * widthAt cs w k) (stored (stepAt cs w) ds k f)
   unfolding stored accepts widthAt recordAt
   stored-bytes zero l a = bytes
   stored-bytes (suc k) l a =
-      forward-bytes (stepAt cs w k) h (length ds) ds (widthAt-pos cs w k wide) (valid-step w h cs (length ds) valid k l) (stored (stepAt cs w) ds k f)
+      forward-bytes (stepAt cs w k) h (length ds) ds (widthAt-pos cs w k wide) (valid-step w h cs ds valid k l) (stored (stepAt cs w) ds k f)
       (stored-bytes k (omega arith) (and-left (accepts (stepAt cs w) h ds k f) _ a)) (and-right (accepts (stepAt cs w) h ds k f) _ a)
 
   rebuilt-stored : (k : ℕ) → k ≤ count cs → accepts (stepAt cs w) h ds k f ≡ true → Alike (h * w) (rebuilt (stepAt cs w) h ds k (stored (stepAt cs w) ds k f)) f
@@ -92,9 +92,9 @@ module _ (w h : ℕ) (cs ds : List ℕ) (valid : chainRefusal w h cs (length ds)
       let s = stepAt cs w k in
       let before = and-left (accepts (stepAt cs w) h ds k f) _ a in
       let undone =
-      backward-forward s h (length ds) ds (widthAt-pos cs w k wide) (valid-step w h cs (length ds) valid k l) (stored (stepAt cs w) ds k f)
+      backward-forward s h (length ds) ds (widthAt-pos cs w k wide) (valid-step w h cs ds valid k l) (stored (stepAt cs w) ds k f)
       (stored-bytes k (omega arith) before) (and-right (accepts (stepAt cs w) h ds k f) _ a) in
-      rebuilt-same cs w h ds wide k (λ j i. valid-known w h cs (length ds) valid j (omega arith)) (backward s h ds (forward s ds (stored (stepAt cs w) ds k f))) (stored (stepAt cs w) ds k f) undone q m
+      rebuilt-same cs w h ds wide k (λ j i. valid-known w h cs ds valid j (omega arith)) (backward s h ds (forward s ds (stored (stepAt cs w) ds k f))) (stored (stepAt cs w) ds k f) undone q m
       ∙ rebuilt-stored k (omega arith) before q m
 
   -- rebuilding what was stored gives the picture
@@ -120,14 +120,14 @@ accepts-untabled cs w h ds (suc k) u f =
     and-both (accepts (stepAt cs w) h ds k f) _ (accepts-untabled cs w h ds k (λ j l. u j (omega arith)) f)
     (takes-other (stepAt cs w k) h ds (stored (stepAt cs w) ds k f) (u k (omega arith)))
 
-module _ (w h : ℕ) (cs ds : List ℕ) (valid : chainRefusal w h cs (length ds) ≡ 0) (untabled : Untabled cs w (count cs)) where
+module _ (w h : ℕ) (cs ds : List ℕ) (valid : inputRefusal w h cs ds ≡ 0) (untabled : Untabled cs w (count cs)) where
   stored-rebuilt : (k : ℕ) → k ≤ count cs → (g : Picture) → BytesIn (h * widthAt cs w k) g → Alike (h * widthAt cs w k) (stored (stepAt cs w) ds k (rebuilt (stepAt cs w) h ds k g)) g
   unfolding stored rebuilt widthAt recordAt
   stored-rebuilt zero l g bytes q m = refl
   stored-rebuilt (suc k) l g bytes q m =
       let s = stepAt cs w k in
-      let pos = widthAt-pos cs w k (valid-sized w h cs (length ds) valid .wide) in
-      let known = valid-known w h cs (length ds) valid k l in
+      let pos = widthAt-pos cs w k (valid-sized w h cs ds valid .wide) in
+      let known = valid-known w h cs ds valid k l in
       let g′ = backward s h ds g in
       forward-same s h ds pos known (stored (stepAt cs w) ds k (rebuilt (stepAt cs w) h ds k g′)) g′
       (stored-rebuilt k (omega arith) g′ (backward-bytes s h ds pos known (untabled k l) g bytes)) q m

@@ -3,6 +3,7 @@ use mathlib.Core.Bool.{Bool, true, false}
 use mathlib.Core.Path.{_≡_, refl, sym, ap, _∙_}
 use Prim.Native.Nat.{ℕ, zero, suc, _+_, _*_, _/_, _%_, _^_, _<_, _≤_}
 use native.Mathlib.Nat.{not-suc-le-zero, le-of-suc-le-suc, zero-add, pow-zero, pow-succ', div-one, mod-eq-of-lt, div-eq-of-lt, add-mul-mod-self-left, add-mul-div-left, div-div-eq-div-mul, mod-lt, div-add-mod', div-lt-iff-lt-mul, le-div-iff-mul-le, suc-mul, div-mul-le-self, one-mul, lt-of-lt-of-le}
+use lib.Pow.{pow-add}
 use native.Mathlib.Omega.{arith}
 use borrow.Author.Tests.{ltb-true, leb-true, lt-ltb}
 use lib.Arith.{digits-lt, digits-div, digits-mod}
@@ -11,7 +12,7 @@ use Rattle.format.specs.Choice.{if_then_else_}
 use Rattle.format.specs.declared.Pixel.{Pixel}
 use Rattle.format.specs.Pixel.{equal}
 use Rattle.format.specs.Picture.{Picture, ceiling}
-use Rattle.format.specs.ColorTable.{perPixel, range, packedWidth, indexIn, entry, unpacked, lowest, indexOf, hasEntry, accepted, digits, indexAt, packed}
+use Rattle.format.specs.ColorTable.{perPixel, range, packedWidth, indexIn, entry, unpacked, lowest, indexOf, hasEntry, haveEntries, digits, indexAt, packed}
 use Rattle.format.proofs.Choice.{every-at}
 use Rattle.format.proofs.Pixels.{equal-true, equal-refl}
 
@@ -46,6 +47,18 @@ lowest-least e v (suc k) i j a q l = go (equal (e i) v) refl (lowest-least e v k
     go : (b : Bool) → equal (e i) v ≡ b → (suc i ≤ j → e j ≡ v → j < suc i + k → lowest e v k (suc i) ≤ j) → (if b then i else lowest e v k (suc i)) ≤ j
     go true r ih = a
     go false r ih = let n = other r in ih (omega arith) q (omega arith)
+
+-- an index by shifts is a digit to the base `range n`
+
+pow-times : (a k : ℕ) → 2 ^ (a * k) ≡ (2 ^ a) ^ k
+pow-times a zero = let e : a * 0 ≡ 0 = omega arith in rw (e, pow-zero (2 ^ a), pow-zero 2) refl
+pow-times a (suc k) =
+    let e : a * suc k ≡ a + a * k = omega arith in
+    rw (e, pow-add 2 a (a * k), pow-times a k) (sym (pow-succ' (2 ^ a) k))
+
+pub index-digit : (n b k : ℕ) → indexIn n b k ≡ b / range n ^ k % range n
+unfolding indexIn
+index-digit n b k = rw (pow-times (8 / n) k) refl
 
 -- how many indices go into a byte
 
@@ -104,7 +117,7 @@ ceiling-pos w n p q = le-div-iff-mul-le q .1 (omega (arith, one-mul n))
 
 -- rebuilding undoes storing
 
-module _ (w h size : ℕ) (e f : Picture) (pos : 0 < w) (least : size ≤ 256) (taken : accepted size e (h * w) f ≡ true) where
+module _ (w h size : ℕ) (e f : Picture) (pos : 0 < w) (least : size ≤ 256) (taken : haveEntries size e (h * w) f ≡ true) where
   abbrev n : ℕ
   n = perPixel size
 
@@ -142,7 +155,8 @@ module _ (w h size : ℕ) (e f : Picture) (pos : 0 < w) (least : size ≤ 256) (
 
       found : indexIn n (packed w size e f (y * packedWidth size w + x / n) .green) (x % n) ≡ indexOf size e (f q)
       found =
-          rw (digits-div y column, digits-mod y column)
+          index-digit n (packed w size e f (y * packedWidth size w + x / n) .green) (x % n)
+          ∙ rw (digits-div y column, digits-mod y column)
           (digit (range n) (places size least .some) n (λ k. indexAt w size e f y (x / n * n + k)) (x % n) (λ k m. digit-small y below (x / n * n + k)) (mod-lt x (perPixel-pos size))
           ∙ rw (div-add-mod' x n, lt-ltb x w inside) (ap (λ (z : ℕ). indexOf size e (f z)) (div-add-mod' q w)))
 
@@ -157,7 +171,7 @@ module _ (u : ℕ) (pos : 0 < u) where
       let below : P * u + g 0 < u ^ n * u = digits-lt (digits-below n (λ k. g (suc k)) (λ k m. h (suc k) (omega arith))) (h 0 (omega arith)) in
       omega (arith, pow-succ' u n)
 
-module _ (w h size : ℕ) (e f : Picture) (pos : 0 < w) (least : size ≤ 256) (taken : accepted size e (h * w) f ≡ true) where
+module _ (w h size : ℕ) (e f : Picture) (pos : 0 < w) (least : size ≤ 256) (taken : haveEntries size e (h * w) f ≡ true) where
   pub packed-byte : (r : ℕ) → r < h * packedWidth size w → packed w size e f r .green < 256
   unfolding packed
   packed-byte r l =

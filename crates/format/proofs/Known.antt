@@ -10,14 +10,14 @@ use Rattle.format.specs.Picture.{pixels, written, inOrder, block, writte
 use Rattle.format.specs.Predictor.{predict, select, predicted, residuals, gained}
 use Rattle.format.specs.Color.{inverseColor, colorRebuilt}
 use Rattle.format.specs.SubtractGreen.{greenRebuilt}
-use Rattle.format.specs.ColorTable.{perPixel, unpacked, lowest, digits, packed}
+use Rattle.format.specs.ColorTable.{perPixel, indexIn, unpacked, lowest, digits, packed}
 use Rattle.format.specs.ColorMap.{adjusted, adjustColorMap}
 use Rattle.format.specs.Chain.{recordAt, byKind, narrowed, widthAt}
-use Rattle.format.specs.Refusals.{tabled, tabledLength, checked, recordsRefusal, chainRefusal}
+use Rattle.format.specs.Refusals.{tabled, tabledLength, checked, recordsRefusal, sizeRefusal, chainRefusal, inputRefusal}
 use Rattle.format.specs.Stages.{forward, backward, stored, rebuilt, takes, accepts}
 use Rattle.format.specs.Made.{namedBy, named, columns, madeOf, takesItem, missing}
 use Rattle.format.specs.Retouch.{spotsOf, spotRecords, unmade, remade, newStrip, changes, pointAnswer}
-use Rattle.format.specs.Calls.{rebuildAnswer, rebuildImage, storeAnswer, storeStrip, retouchAnswer, retouchPicture, retouchStrip}
+use Rattle.format.specs.Calls.{pairRefusal, rebuildAnswer, rebuildImage, storeAnswer, storeStrip, retouchAnswer, retouchPicture, retouchStrip}
 
 pub record Line : Type 0 where
   pub computed : List ℕ
@@ -115,5 +115,5 @@ worked =
     ∷ []
 
 pub known : map (λ (l : Line). l .computed) worked ≡ map (λ (l : Line). l .expected) worked
-unfolding each each3 pixels written inOrder residuals gained predicted block predict select delta inverseColor colorRebuilt greenRebuilt unpacked perPixel lowest digits packed adjustColorMap adjusted writtenBytes recordAt byKind narrowed widthAt tabled tabledLength checked recordsRefusal chainRefusal forward backward stored rebuilt takes accepts rebuildAnswer rebuildImage storeAnswer storeStrip namedBy named columns madeOf takesItem missing spotsOf spotRecords unmade remade newStrip changes pointAnswer retouchAnswer retouchPicture retouchStrip
+unfolding each each3 pixels written inOrder residuals gained predicted block predict select delta inverseColor colorRebuilt greenRebuilt indexIn unpacked perPixel lowest digits packed adjustColorMap adjusted writtenBytes recordAt byKind narrowed widthAt tabled tabledLength checked recordsRefusal sizeRefusal chainRefusal inputRefusal forward backward stored rebuilt takes accepts pairRefusal rebuildAnswer rebuildImage storeAnswer storeStrip namedBy named columns madeOf takesItem missing spotsOf spotRecords unmade remade newStrip changes pointAnswer retouchAnswer retouchPicture retouchStrip
 known = refl

@@ -1,5 +1,6 @@
 -- Laws about the definitions, a file for a file.
 pub mod Choice
+pub mod Lists
 pub mod Indices
 pub mod Byte
 pub mod Pixels
@@ -21,7 +22,9 @@ pub mod Chains
 pub mod Locality
 pub mod Making
 pub mod Marks
+pub mod Afresh
 pub mod Spots
+pub mod Unmade
 pub mod Steps
 pub mod Calls
 pub mod Retouching

@@ -1,4 +1,4 @@
--- A change of a pixel stays in its spots: pictures that agree away from some items make stages that agree away from the spots of those items.
+-- A change stays in its spots: pictures that agree away from some pixels make stages that agree away from the spots of those pixels.
 use mathlib.Core.List.{List, [], _∷_, List·Memᴰ·head, List·Memᴰ·tail}
 use mathlib.Core.Path.{_≡_, refl, sym, ap}
 use Prim.Native.Nat.{ℕ, zero, suc, _+_, _-_, _*_, _/_, _%_, _<_, _≤_}
@@ -156,9 +156,9 @@ forward-off s ds pos known ps f g h r n = forward-local s ds pos known f g r (λ
 
 -- the first k records
 pub stored-off : (steps : ℕ → Step) (ds : List ℕ) (k : ℕ) → ((j : ℕ) → j < k → 1 ≤ steps j .width) → ((j : ℕ) → j < k → steps j .kind ≤ 3)
-    → (p : ℕ) (f g : Picture) → Off (p ∷ []) f g → Off (spotRecords steps k p) (stored steps ds k f) (stored steps ds k g)
+    → (ps : List ℕ) (f g : Picture) → Off ps f g → Off (spotRecords steps k ps) (stored steps ds k f) (stored steps ds k g)
 unfolding stored spotRecords
-stored-off steps ds zero pos known p f g h = h
-stored-off steps ds (suc k) pos known p f g h =
-    forward-off (steps k) ds (pos k (omega arith)) (known k (omega arith)) (spotRecords steps k p) (stored steps ds k f) (stored steps ds k g)
-    (stored-off steps ds k (λ j l. pos j (omega arith)) (λ j l. known j (omega arith)) p f g h)
+stored-off steps ds zero pos known ps f g h = h
+stored-off steps ds (suc k) pos known ps f g h =
+    forward-off (steps k) ds (pos k (omega arith)) (known k (omega arith)) (spotRecords steps k ps) (stored steps ds k f) (stored steps ds k g)
+    (stored-off steps ds k (λ j l. pos j (omega arith)) (λ j l. known j (omega arith)) ps f g h)

@@ -1,4 +1,4 @@
--- What an item is made of is inside its stage, and every item is looked at by one of its spots. So refusal 22 is exact, though it looks at a point's spots alone.
+-- What an item is made of is inside its stage, and every item is looked at by one of its spots. So refusal 22 is exact, though it looks at the spots of changed pixels alone.
 use mathlib.Core.Bool.{Bool, true, false, not, _&&_, _||_, false≢true, true≢false}
 use mathlib.Core.List.{List, [], _∷_, List·Memᴰ·head, List·Memᴰ·tail}
 use mathlib.Core.Logic.{⊎-elim}
@@ -18,9 +18,9 @@ use Rattle.format.specs.Picture.{Picture}
 use Rattle.format.specs.Predictor.{index, left, top, topRight, topLeft, mode}
 use Rattle.format.specs.ColorTable.{perPixel, packedWidth, hasEntry}
 use Rattle.format.specs.Chain.{narrowed, widthAt, stepAt, count}
-use Rattle.format.specs.Refusals.{chainRefusal}
+use Rattle.format.specs.Refusals.{inputRefusal}
 use Rattle.format.specs.Stages.{partOf, takes, stored, accepts}
-use Rattle.format.specs.Made.{modeNames, namedBy, named, columns, madeOf, takesItem, missing}
+use Rattle.format.specs.Made.{modeNames, namedBy, named, columns, madeOf, takesItem, missing, lost}
 use Rattle.format.specs.Retouch.{packedOver, spotsOf, spotRecords, unmade}
 use Rattle.format.specs.Calls.{records}
 use Rattle.format.proofs.Choice.{and-left, and-right, and-both, or-left, or-right, or-cases, every-at, not-every, every-true, if-cases, opposite}
@@ -95,19 +95,19 @@ columns-inside w h y l (suc n) x =
 -- what an item is made of, by kind
 
 module _ (s : Step) (ds : List ℕ) (r : ℕ) where
-  made-predictor : s .kind ≡ 0 → madeOf s ds r ≡ r ∷ named (s .width) (s .bits) (partOf s ds) (r % s .width) (r / s .width)
+  pub made-predictor : s .kind ≡ 0 → madeOf s ds r ≡ r ∷ named (s .width) (s .bits) (partOf s ds) (r % s .width) (r / s .width)
   unfolding madeOf
   made-predictor e = byKind-0 _ _ _ _ (s .kind) e
 
-  made-color : s .kind ≡ 1 → madeOf s ds r ≡ r ∷ []
+  pub made-color : s .kind ≡ 1 → madeOf s ds r ≡ r ∷ []
   unfolding madeOf
   made-color e = byKind-1 _ _ _ _ (s .kind) e
 
-  made-green : s .kind ≡ 2 → madeOf s ds r ≡ r ∷ []
+  pub made-green : s .kind ≡ 2 → madeOf s ds r ≡ r ∷ []
   unfolding madeOf
   made-green e = byKind-2 _ _ _ _ (s .kind) e
 
-  made-table : s .kind ≡ 3
+  pub made-table : s .kind ≡ 3
       → madeOf s ds r
       ≡ columns (s .width) (r / packedWidth (s .size) (s .width)) (perPixel (s .size)) (r % packedWidth (s .size) (s .width) * perPixel (s .size))
   unfolding madeOf
@@ -188,10 +188,6 @@ module _ (steps : ℕ → Step) (widths : ℕ → ℕ) (h : ℕ) (ds : List ℕ)
   abbrev Fit : ℕ → Type 0
   Fit k = (j : ℕ) → j < k → Fits (steps j) (widths j) (widths (suc j))
 
-  -- item q before record k cannot be made of f, or is not taken
-  abbrev lost : ℕ → Picture → ℕ → Bool
-  lost k f q = missing steps ds k f q || not (takesItem (steps k) ds (stored steps ds k f q))
-
   -- the next record takes each item of an accepted picture
   taken : (k : ℕ) (f : Picture) → accepts steps h ds (suc k) f ≡ true → (q : ℕ) → q < h * steps k .width → takesItem (steps k) ds (stored steps ds k f q) ≡ true
   unfolding accepts
@@ -205,28 +201,29 @@ module _ (steps : ℕ → Step) (widths : ℕ → ℕ) (h : ℕ) (ds : List ℕ)
   none-missing zero fit f a r l e = false≢true e
   none-missing (suc k) fit f a r l e =
       let now = fit k (omega arith) in
-      let m = in-some (lost k f) (madeOf (steps k) ds r) e in
+      let m = in-some (lost steps ds k f) (madeOf (steps k) ds r) e in
       let q = m .0 in
       let b = made-inside (steps k) h ds (now .wide) (now .known) r q (rw (now .to) l) (m .1) in
       ⊎-elim (none-missing k (λ j i. fit j (omega arith)) f (and-left (accepts steps h ds k f) _ a) q (subst (λ (x : ℕ). q < h * x) (now .from) b))
       (λ t. true≢false (sym (taken k f a q b) ∙ not-true (takesItem (steps k) ds (stored steps ds k f q)) t))
       (or-cases (missing steps ds k f q) (not (takesItem (steps k) ds (stored steps ds k f q))) (m .2))
 
-  module _ (p : ℕ) (f g : Picture) (off : Off (p ∷ []) f g) where
-    -- a record of p's spots that is inside and cannot be made of g
+  -- f and g agree away from ps
+  module _ (ps : List ℕ) (f g : Picture) (off : Off ps f g) where
+    -- a record of their spots that is inside and cannot be made of g
     abbrev Missing : ℕ → Type 0
-    Missing k = (r : ℕ) × (r < h * widths k) × In r (spotRecords steps k p) × (missing steps ds k g r ≡ true)
+    Missing k = (r : ℕ) × (r < h * widths k) × In r (spotRecords steps k ps) × (missing steps ds k g r ≡ true)
 
-    -- an item of p's spots that is lost makes one after the next record missing
-    missing-next : (k : ℕ) → Fit (suc k) → (q : ℕ) → q < h * steps k .width → In q (spotRecords steps k p) → lost k g q ≡ true → Missing (suc k)
+    -- an item of their spots that is lost makes one after the next record missing
+    missing-next : (k : ℕ) → Fit (suc k) → (q : ℕ) → q < h * steps k .width → In q (spotRecords steps k ps) → lost steps ds k g q ≡ true → Missing (suc k)
     unfolding missing spotRecords
     missing-next k fit q l m e =
         let now = fit k (omega arith) in
         let o = made-own (steps k) h ds (now .wide) (now .known) q l in (
           o .0,
           subst (λ (x : ℕ). o .0 < h * x) (now .to) (o .1),
-          in-union (spotsOf (steps k)) (spotRecords steps k p) m (o .2),
-          some-in (lost k g) q (madeOf (steps k) ds (o .0)) (o .3) e,
+          in-union (spotsOf (steps k)) (spotRecords steps k ps) m (o .2),
+          some-in (lost steps ds k g) q (madeOf (steps k) ds (o .0)) (o .3) e,
         )
 
     -- of a changed picture that is not accepted, one of these cannot be made
@@ -242,13 +239,13 @@ module _ (steps : ℕ → Step) (widths : ℕ → ℕ) (h : ℕ) (ds : List ℕ)
         now = fit k (omega arith)
 
         -- an item that is taken of f and not of g has changed
-        changed : (q : ℕ) → q < h * s .width → takesItem s ds (stored steps ds k g q) ≡ false → In q (spotRecords steps k p)
+        changed : (q : ℕ) → q < h * s .width → takesItem s ds (stored steps ds k g q) ≡ false → In q (spotRecords steps k ps)
         changed q l e =
             ⊎-elim (λ m. m)
             (λ n.
-            let same = stored-off steps ds k (λ j i. fit j (omega arith) .wide) (λ j i. fit j (omega arith) .known) p f g off q n in
+            let same = stored-off steps ds k (λ j i. fit j (omega arith) .wide) (λ j i. fit j (omega arith) .known) ps f g off q n in
             absurd (true≢false (sym (taken k f a q l) ∙ ap (takesItem s ds) same ∙ e)))
-            (in-or-out q (spotRecords steps k p))
+            (in-or-out q (spotRecords steps k ps))
 
         go : (b : Bool) → accepts steps h ds k g ≡ b → (b && takes s h ds (stored steps ds k g)) ≡ false → (accepts steps h ds k g ≡ false → Missing k) → Missing (suc k)
         go false e t ih =
@@ -258,30 +255,30 @@ module _ (steps : ℕ → Step) (widths : ℕ → ℕ) (h : ℕ) (ds : List ℕ)
             let u = not-every (h * s .width) (λ q. takesItem s ds (stored steps ds k g q)) (sym (takes-items s h ds (stored steps ds k g)) ∙ t) in
             missing-next k fit (u .0) (u .1) (changed (u .0) (u .1) (u .2)) (or-right (missing steps ds k g (u .0)) _ (ap not (u .2)))
 
-    -- from an accepted picture: a record of p's spots cannot be made exactly if the changed picture is not accepted
-    unmade-steps : (k : ℕ) → Fit k → accepts steps h ds k f ≡ true → unmade steps ds k (h * widths k) g (spotRecords steps k p) ≡ not (accepts steps h ds k g)
+    -- from an accepted picture: a record of their spots cannot be made exactly if the changed picture is not accepted
+    unmade-steps : (k : ℕ) → Fit k → accepts steps h ds k f ≡ true → unmade steps ds k (h * widths k) g (spotRecords steps k ps) ≡ not (accepts steps h ds k g)
     unfolding unmade
-    unmade-steps k fit a = opposite (some t (spotRecords steps k p)) (accepts steps h ds k g) there back
+    unmade-steps k fit a = opposite (some t (spotRecords steps k ps)) (accepts steps h ds k g) there back
       where
         t : ℕ → Bool
         t r = ltb r (h * widths k) && missing steps ds k g r
 
-        there : some t (spotRecords steps k p) ≡ true → accepts steps h ds k g ≡ true → ⊥
+        there : some t (spotRecords steps k ps) ≡ true → accepts steps h ds k g ≡ true → ⊥
         there e b =
-            let m = in-some t (spotRecords steps k p) e in
+            let m = in-some t (spotRecords steps k ps) e in
             let r = m .0 in
             none-missing k fit g b r (ltb-true r (h * widths k) (and-left (ltb r (h * widths k)) _ (m .2))) (and-right (ltb r (h * widths k)) _ (m .2))
 
-        back : accepts steps h ds k g ≡ false → some t (spotRecords steps k p) ≡ true
+        back : accepts steps h ds k g ≡ false → some t (spotRecords steps k ps) ≡ true
         back b =
             let m = some-missing k fit a b in
             let r = m .0 in
-            some-in t r (spotRecords steps k p) (m .2) (and-both (ltb r (h * widths k)) _ (lt-ltb r (h * widths k) (m .1)) (m .3))
+            some-in t r (spotRecords steps k ps) (m .2) (and-both (ltb r (h * widths k)) _ (lt-ltb r (h * widths k) (m .1)) (m .3))
 
 -- a valid chain
 
-module _ (w h : ℕ) (cs ds : List ℕ) (valid : chainRefusal w h cs (length ds) ≡ 0) where
-  -- refusal 22 is exact: from an accepted picture, one of a point's records cannot be made exactly if storing does not accept the changed picture
-  pub unmade-exact : (p : ℕ) (f g : Picture) → Off (p ∷ []) f g → accepts (stepAt cs w) h ds (count cs) f ≡ true
-      → unmade (stepAt cs w) ds (count cs) (records w h cs) g (spotRecords (stepAt cs w) (count cs) p) ≡ not (accepts (stepAt cs w) h ds (count cs) g)
-  unmade-exact p f g off a = unmade-steps (stepAt cs w) (widthAt cs w) h ds p f g off (count cs) (valid-fits w h cs (length ds) valid) a
+module _ (w h : ℕ) (cs ds : List ℕ) (valid : inputRefusal w h cs ds ≡ 0) where
+  -- refusal 22 is exact: from an accepted picture, one of the records of the changed pixels cannot be made exactly if storing does not accept the changed picture
+  pub unmade-exact : (ps : List ℕ) (f g : Picture) → Off ps f g → accepts (stepAt cs w) h ds (count cs) f ≡ true
+      → unmade (stepAt cs w) ds (count cs) (records w h cs) g (spotRecords (stepAt cs w) (count cs) ps) ≡ not (accepts (stepAt cs w) h ds (count cs) g)
+  unmade-exact ps f g off a = unmade-steps (stepAt cs w) (widthAt cs w) h ds ps f g off (count cs) (valid-fits w h cs ds valid) a

@@ -3,11 +3,12 @@ use mathlib.Core.Bool.{Bool, true, false, not, _&&_, _||_}
 use mathlib.Core.List.{List, [], _∷_, List·Memᴰ·head, List·Memᴰ·tail, List·Memᴰ·not-nil, List·Memᴰ·cases-cons}
 use mathlib.Core.Logic.{_⊎_, inl, inr, ⊎-elim}
 use mathlib.Core.Path.{_≡_, refl, sym, ap, _∙_}
-use Prim.Native.Nat.{ℕ, zero, suc, _+_, _^_, _<_, _≤_}
+use Prim.Native.Nat.{ℕ, zero, suc, _+_, _*_, _/_, _%_, _^_, _<_, _≤_}
 use native.Mathlib.Nat.{not-suc-le-zero, lt-of-lt-of-le, pow-succ'}
 use native.Mathlib.Decide.{ℕ-discrete}
 use native.Mathlib.Omega.{arith}
 use borrow.Author.Tests.{eq-eqb, ne-eqb}
+use lib.Count as Count
 use lib.Dec.{eqb}
 use lib.ListN.{length}
 use lib.Pow.{pow-mono}
@@ -147,3 +148,15 @@ mask-below (b ∷ bs) = omega (arith, bit-most b, mask-below bs, pow-succ' 2 (le
 
 pub mask-small : (bs : List Bool) → length bs ≤ 5 → maskOf bs < 32
 mask-small bs l = lt-of-lt-of-le (mask-below bs) (pow-mono l)
+
+-- the count of ones in the mask, as a number
+
+pub ones-maskOf : (bs : List Bool) → Count.ones (maskOf bs) ≡ ones bs
+ones-maskOf [] = unfold Count.ones Count.onesIn in refl
+ones-maskOf (b ∷ bs) = Count.ones-step (maskOf (b ∷ bs)) ∙ rw (low, high) (ap (λ (n : ℕ). bit b + n) (ones-maskOf bs))
+  where
+    low : (bit b + 2 * maskOf bs) % 2 ≡ bit b
+    low = omega (arith, bit-most b)
+
+    high : (bit b + 2 * maskOf bs) / 2 ≡ maskOf bs
+    high = omega (arith, bit-most b)

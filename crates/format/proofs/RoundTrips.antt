@@ -8,7 +8,7 @@ use Rattle.format.specs.Picture.{Picture, byteAt}
 use Rattle.format.specs.Predictor.{residuals, fromResiduals}
 use Rattle.format.specs.Color.{colorStored, colorRebuilt}
 use Rattle.format.specs.SubtractGreen.{greenStored, greenRebuilt}
-use Rattle.format.specs.ColorTable.{packed, unpacked, accepted}
+use Rattle.format.specs.ColorTable.{packed, unpacked, haveEntries}
 use Rattle.format.specs.ColorMap.{adjustColorMap, unadjustColorMap}
 use Rattle.format.proofs.Pixels.{Bytes}
 use Rattle.format.proofs.Predictor.{rebuilt-residuals, residuals-rebuilt}
@@ -28,7 +28,7 @@ module _ (w h : ℕ) (pos : 0 < w) (f : Picture) (bytes : (q : ℕ) → q < h * 
   pub green-stored : (q : ℕ) → q < h * w → greenRebuilt (greenStored f) q ≡ f q
   green-stored q l = green-rebuilt-stored f q (bytes q l)
 
-  pub table-stored : (size : ℕ) (e : Picture) → size ≤ 256 → accepted size e (h * w) f ≡ true → (q : ℕ) → q < h * w → unpacked w size e (packed w size e f) q ≡ f q
+  pub table-stored : (size : ℕ) (e : Picture) → size ≤ 256 → haveEntries size e (h * w) f ≡ true → (q : ℕ) → q < h * w → unpacked w size e (packed w size e f) q ≡ f q
   table-stored size e least taken q l = unpacked-packed w h size e f pos least taken q l
 
   -- without a table, storing what was rebuilt gives the residuals

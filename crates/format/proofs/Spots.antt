@@ -21,7 +21,7 @@ use Rattle.format.specs.Picture.{Picture}
 use Rattle.format.specs.Predictor.{index, left, top, topRight, topLeft, mode, predictions, predict, predicted}
 use Rattle.format.specs.ColorTable.{perPixel, packedWidth}
 use Rattle.format.specs.Chain.{narrowed, widthAt, stepAt, count}
-use Rattle.format.specs.Refusals.{chainRefusal}
+use Rattle.format.specs.Refusals.{inputRefusal}
 use Rattle.format.specs.Made.{modeNames, namedBy, named}
 use Rattle.format.specs.Retouch.{fiveSpots, packedOver, placeOf, spotsOf, spotRecords}
 use Rattle.format.specs.Calls.{records}
@@ -41,12 +41,12 @@ placed steps t zero q = q
 placed steps t (suc k) q = if leb t k then placeOf (steps k) (placed steps t k q) else q
 
 module _ (steps : ℕ → Step) (t : ℕ) where
-  placed-same : (k : ℕ) → k ≤ t → (q : ℕ) → placed steps t k q ≡ q
+  pub placed-same : (k : ℕ) → k ≤ t → (q : ℕ) → placed steps t k q ≡ q
   unfolding placed
   placed-same zero l q = refl
   placed-same (suc k) l q = rw (lt-leb t k l)
 
-  placed-next : (k : ℕ) → t ≤ k → (q : ℕ) → placed steps t (suc k) q ≡ placeOf (steps k) (placed steps t k q)
+  pub placed-next : (k : ℕ) → t ≤ k → (q : ℕ) → placed steps t (suc k) q ≡ placeOf (steps k) (placed steps t k q)
   unfolding placed
   placed-next k l q = rw (le-leb t k l)
 
@@ -84,7 +84,7 @@ place-inside s a b fit h q = rw (← fit .from, ← fit .to) (go (ℕ-discrete (
     go (no n) = rw (narrowed-other s n, ne-eqb (s .kind) 3 n) (λ x. x, λ x. x)
 
 -- induction from t on
-from : (C : ℕ → Type 0) (t : ℕ) → C t → ((k : ℕ) → t ≤ k → C k → C (suc k)) → (k : ℕ) → t ≤ k → C k
+pub from : (C : ℕ → Type 0) (t : ℕ) → C t → ((k : ℕ) → t ≤ k → C k → C (suc k)) → (k : ℕ) → t ≤ k → C k
 from C t a b zero l = let e : t ≡ 0 = omega arith in subst C e a
 from C t a b (suc k) l = go (ℕ-discrete t (suc k)) (from C t a b k)
   where
@@ -94,16 +94,16 @@ from C t a b (suc k) l = go (ℕ-discrete t (suc k)) (from C t a b k)
 
 module _ (steps : ℕ → Step) (t : ℕ) where
   -- records t to k - 1, none of them the predictor's, move each spot to the item that holds it
-  spots-along : (p k : ℕ) → t ≤ k → ((j : ℕ) → t ≤ j → j < k → steps j .kind ≡ 0 → ⊥) → spotRecords steps k p ≡ map (placed steps t k) (spotRecords steps t p)
+  spots-along : (ps : List ℕ) (k : ℕ) → t ≤ k → ((j : ℕ) → t ≤ j → j < k → steps j .kind ≡ 0 → ⊥) → spotRecords steps k ps ≡ map (placed steps t k) (spotRecords steps t ps)
   unfolding spotRecords
-  spots-along p =
-      from (λ k. ((j : ℕ) → t ≤ j → j < k → steps j .kind ≡ 0 → ⊥) → spotRecords steps k p ≡ map (placed steps t k) (spotRecords steps t p)) t
-      (λ n. sym (map-same (placed steps t t) (λ q. q) (placed-same steps t t (omega arith)) (spotRecords steps t p) ∙ map-id (spotRecords steps t p)))
+  spots-along ps =
+      from (λ k. ((j : ℕ) → t ≤ j → j < k → steps j .kind ≡ 0 → ⊥) → spotRecords steps k ps ≡ map (placed steps t k) (spotRecords steps t ps)) t
+      (λ n. sym (map-same (placed steps t t) (λ q. q) (placed-same steps t t (omega arith)) (spotRecords steps t ps) ∙ map-id (spotRecords steps t ps)))
       (λ k l ih n.
-      union-map (spotsOf (steps k)) (placeOf (steps k)) (λ q. spots-place (steps k) q (n k l (omega arith))) (spotRecords steps k p)
+      union-map (spotsOf (steps k)) (placeOf (steps k)) (λ q. spots-place (steps k) q (n k l (omega arith))) (spotRecords steps k ps)
       ∙ ap (map (placeOf (steps k))) (ih (λ j i m. n j i (omega arith)))
-      ∙ map-map (placeOf (steps k)) (placed steps t k) (spotRecords steps t p)
-      ∙ sym (map-same (placed steps t (suc k)) (λ q. placeOf (steps k) (placed steps t k q)) (placed-next steps t k l) (spotRecords steps t p)))
+      ∙ map-map (placeOf (steps k)) (placed steps t k) (spotRecords steps t ps)
+      ∙ sym (map-same (placed steps t (suc k)) (λ q. placeOf (steps k) (placed steps t k q)) (placed-next steps t k l) (spotRecords steps t ps)))
 
   -- an item is inside its stage exactly if the item that holds it later is
   placed-inside : (widths : ℕ → ℕ) (h q k : ℕ) → t ≤ k → ((j : ℕ) → j < k → Fits (steps j) (widths j) (widths (suc j))) → (q < h * widths t) ↔ (placed steps t k q < h * widths k)
@@ -117,32 +117,32 @@ module _ (steps : ℕ → Step) (t : ℕ) where
 
 -- a valid chain
 
-module _ (w h : ℕ) (cs : List ℕ) (n : ℕ) (valid : chainRefusal w h cs n ≡ 0) where
+module _ (w h : ℕ) (cs ds : List ℕ) (valid : inputRefusal w h cs ds ≡ 0) where
   abbrev steps : ℕ → Step
   steps = stepAt cs w
 
   -- the predictor's five spots around the item that holds p, each in the record that holds it
   pub spots-literal : (t : ℕ) → t < count cs → stepAt cs w t .kind ≡ 0 → (p : ℕ)
-      → spotRecords (stepAt cs w) (count cs) p ≡ map (placed (stepAt cs w) (suc t) (count cs)) (fiveSpots (widthAt cs w t) (placed (stepAt cs w) 0 t p))
+      → spotRecords (stepAt cs w) (count cs) (p ∷ []) ≡ map (placed (stepAt cs w) (suc t) (count cs)) (fiveSpots (widthAt cs w t) (placed (stepAt cs w) 0 t p))
   unfolding spotRecords
   spots-literal t l e p =
-      spots-along steps (suc t) p (count cs) l (λ j a b z. valid-once w h cs n valid j b t a (e ∙ sym z))
+      spots-along steps (suc t) (p ∷ []) (count cs) l (λ j a b z. valid-once w h cs ds valid j b t a (e ∙ sym z))
       ∙ ap (map (placed steps (suc t) (count cs))) five
     where
-      alone : spotRecords steps t p ≡ placed steps 0 t p ∷ []
-      alone = spots-along steps 0 p t (omega arith) (λ j a b z. valid-once w h cs n valid t l j b (z ∙ sym e))
+      alone : spotRecords steps t (p ∷ []) ≡ placed steps 0 t p ∷ []
+      alone = spots-along steps 0 (p ∷ []) t (omega arith) (λ j a b z. valid-once w h cs ds valid t l j b (z ∙ sym e))
 
-      five : union (spotsOf (steps t)) (spotRecords steps t p) ≡ fiveSpots (widthAt cs w t) (placed steps 0 t p)
+      five : union (spotsOf (steps t)) (spotRecords steps t (p ∷ [])) ≡ fiveSpots (widthAt cs w t) (placed steps 0 t p)
       five = rw (alone, spots-predictor (steps t) (placed steps 0 t p) e, width-record cs t (widthAt cs w t))
 
   -- without a predictor, the record that holds p
   pub spots-alone : ((j : ℕ) → j < count cs → stepAt cs w j .kind ≡ 0 → ⊥) → (p : ℕ)
-      → spotRecords (stepAt cs w) (count cs) p ≡ placed (stepAt cs w) 0 (count cs) p ∷ []
+      → spotRecords (stepAt cs w) (count cs) (p ∷ []) ≡ placed (stepAt cs w) 0 (count cs) p ∷ []
   unfolding spotRecords
-  spots-alone none p = spots-along steps 0 p (count cs) (omega arith) (λ j a b. none j b)
+  spots-alone none p = spots-along steps 0 (p ∷ []) (count cs) (omega arith) (λ j a b. none j b)
 
   -- a point has at most five records
-  pub spots-few : (p : ℕ) → length (spotRecords (stepAt cs w) (count cs) p) ≤ 5
+  pub spots-few : (p : ℕ) → length (spotRecords (stepAt cs w) (count cs) (p ∷ [])) ≤ 5
   spots-few p =
       let other : ℕ → Bool = λ j. not (eqb (steps j .kind) 0) in
       ⊎-elim
@@ -156,7 +156,7 @@ module _ (w h : ℕ) (cs : List ℕ) (n : ℕ) (valid : chainRefusal w h cs n �
   pub spot-inside : (t : ℕ) → t < count cs → stepAt cs w t .kind ≡ 0 → (q : ℕ)
       → (q < h * widthAt cs w t) ↔ (placed (stepAt cs w) (suc t) (count cs) q < records w h cs)
   spot-inside t l e q =
-      let fit = valid-fits w h cs n valid in
+      let fit = valid-fits w h cs ds valid in
       let same : widthAt cs w (suc t) ≡ widthAt cs w t = sym (fit t l .to) ∙ narrowed-other (steps t) (λ z. omega arith) ∙ fit t l .from in
       rw (← same) (placed-inside steps (suc t) (widthAt cs w) h q (count cs) l fit)
 

@@ -1,5 +1,5 @@
 -- What a chain makes of a picture depends on its first k records alone.
-use mathlib.Core.List.{List}
+use mathlib.Core.List.{List, [], _∷_}
 use mathlib.Core.Path.{_≡_, refl, fun-ext}
 use Prim.Native.Nat.{ℕ, zero, suc, _<_}
 use native.Mathlib.Omega.{arith}
@@ -14,10 +14,10 @@ module _ (s t : ℕ → Step) where
   abbrev Same : ℕ → Type 0
   Same k = (j : ℕ) → j < k → s j ≡ t j
 
-  spotRecords-steps : (p k : ℕ) → Same k → spotRecords s k p ≡ spotRecords t k p
+  spotRecords-steps : (ps : List ℕ) (k : ℕ) → Same k → spotRecords s k ps ≡ spotRecords t k ps
   unfolding spotRecords
-  spotRecords-steps p zero e = refl
-  spotRecords-steps p (suc k) e = cc (e k (omega arith), spotRecords-steps p k (λ j l. e j (omega arith)))
+  spotRecords-steps ps zero e = refl
+  spotRecords-steps ps (suc k) e = cc (e k (omega arith), spotRecords-steps ps k (λ j l. e j (omega arith)))
 
   module _ (h : ℕ) (ds : List ℕ) (f : Picture) where
     pub stored-steps : (k : ℕ) → Same k → stored s ds k f ≡ stored t ds k f
@@ -39,11 +39,11 @@ module _ (s t : ℕ → Step) where
         let c = stored-steps k (λ j l. e j (omega arith)) in
         fun-ext (λ r. rw (a, b, c) refl)
 
-    module _ (n p : ℕ) (strip : Picture) (k : ℕ) (e : Same k) where
-      pub newStrip-steps : newStrip s ds k f p strip ≡ newStrip t ds k f p strip
+    module _ (strip : Picture) (k : ℕ) (e : Same k) where
+      pub newStrip-steps : (ps : List ℕ) → newStrip s ds k f ps strip ≡ newStrip t ds k f ps strip
       unfolding newStrip remade
-      newStrip-steps = let a = spotRecords-steps p k e in let b = stored-steps k e in fun-ext (λ r. rw (a, b) refl)
+      newStrip-steps ps = let a = spotRecords-steps ps k e in let b = stored-steps k e in fun-ext (λ r. rw (a, b) refl)
 
-      pub pointAnswer-steps : pointAnswer s ds k n f p strip ≡ pointAnswer t ds k n f p strip
+      pub pointAnswer-steps : (n p : ℕ) → pointAnswer s ds k n f p strip ≡ pointAnswer t ds k n f p strip
       unfolding pointAnswer changes unmade
-      pointAnswer-steps = let a = spotRecords-steps p k e in let b = missing-steps k e in rw (newStrip-steps, a, b) refl
+      pointAnswer-steps n p = let a = spotRecords-steps (p ∷ []) k e in let b = missing-steps k e in rw (newStrip-steps (p ∷ []), a, b) refl

@@ -14,7 +14,7 @@ use Rattle.format.specs.declared.Checked.the-variants.{Taken, UnknownKin
 use Rattle.format.specs.Picture.{byteAt}
 use Rattle.format.specs.Sizes.{Sized}
 use Rattle.format.specs.Chain.{byKind, recordAt, narrowed, widthAt, stepAt, count}
-use Rattle.format.specs.Refusals.{usedBefore, blocksTabled, greenTabled, tableTabled, tabled, blockBytes, tabledLength, checked, number, _unless_, _before_, recordsRefusal, inRange, wholeRecords, chainRefusal}
+use Rattle.format.specs.Refusals.{usedBefore, blocksTabled, greenTabled, tableTabled, tabled, blockBytes, tabledLength, checked, number, _unless_, _before_, recordsRefusal, inRange, wholeRecords, sizeRefusal, chainRefusal, inputRefusal}
 use Rattle.format.specs.ValidStep.{ValidBlocks, ValidTable, ValidStep}
 use Rattle.format.proofs.Choice.{and-left, and-right, every-at}
 use Rattle.format.proofs.ByKind.{byKind-blocks, byKind-3}
@@ -42,21 +42,21 @@ unless-zero n false e = absurd (omega arith)
 -- one record
 
 -- the tests that a record passes
-pub record Passed (again : Bool) (h n : ℕ) (s : Step) : Type 0 where
+pub record Passed (again : Bool) (h : ℕ) (ds : List ℕ) (s : Step) : Type 0 where
   pub known : ltb 3 (s .kind) ≡ false
   pub new : again ≡ false
   pub rightly : tabled s ≡ true
   pub long : eqb (s .length) (tabledLength s h) ≡ true
-  pub inside : ltb n (s .offset + s .length) ≡ false
+  pub inside : ltb (length ds) (s .offset + s .length) ≡ false
 
-module _ (again : Bool) (h n : ℕ) (s : Step) where
-  pub passed : number (checked again h n s) ≡ 0 → Passed again h n s
+module _ (again : Bool) (h : ℕ) (ds : List ℕ) (s : Step) where
+  pub passed : number (checked again h ds s) ≡ 0 → Passed again h ds s
   unfolding checked
-  passed = go (ltb 3 (s .kind)) again (tabled s) (eqb (s .length) (tabledLength s h)) (ltb n (s .offset + s .length)) refl refl refl refl refl
+  passed = go (ltb 3 (s .kind)) again (tabled s) (eqb (s .length) (tabledLength s h)) (ltb (length ds) (s .offset + s .length)) refl refl refl refl refl
     where
-      go : (a b c d e : Bool) → ltb 3 (s .kind) ≡ a → again ≡ b → tabled s ≡ c → eqb (s .length) (tabledLength s h) ≡ d → ltb n (s .offset + s .length) ≡ e
+      go : (a b c d e : Bool) → ltb 3 (s .kind) ≡ a → again ≡ b → tabled s ≡ c → eqb (s .length) (tabledLength s h) ≡ d → ltb (length ds) (s .offset + s .length) ≡ e
           → number (if a then UnknownKind else if b then KindAgain else if not c then NotTabled else if not d then WrongLength else if e then BeyondData else Taken s) ≡ 0
-          → Passed again h n s
+          → Passed again h ds s
       go true b c d e p q r t u z = absurd (omega arith)
       go false true c d e p q r t u z = absurd (omega arith)
       go false false false d e p q r t u z = absurd (omega arith)
@@ -65,15 +65,15 @@ module _ (again : Bool) (h n : ℕ) (s : Step) where
       go false false true true false p q r t u z = record { known = p; new = q; rightly = r; long = t; inside = u }
 
   -- what the table of kinds says of bits and size, and of the length
-  fields : Passed again h n s → byKind (s .kind) (blocksTabled s) (blocksTabled s) (greenTabled s) (tableTabled s) ≡ true
+  fields : Passed again h ds s → byKind (s .kind) (blocksTabled s) (blocksTabled s) (greenTabled s) (tableTabled s) ≡ true
   unfolding tabled
   fields p = and-right (eqb (s .zero) 0) _ (p .rightly)
 
-  lengths : Passed again h n s → s .length ≡ byKind (s .kind) (blockBytes s h) (blockBytes s h) 0 (4 * s .size)
+  lengths : Passed again h ds s → s .length ≡ byKind (s .kind) (blockBytes s h) (blockBytes s h) 0 (4 * s .size)
   unfolding tabledLength
   lengths p = eqb-true (s .length) _ (p .long)
 
-  valid-blocks : Passed again h n s → s .kind ≤ 1 → ValidBlocks s h
+  valid-blocks : Passed again h ds s → s .kind ≤ 1 → ValidBlocks s h
   valid-blocks p l =
       let t = sym (byKind-blocks (blocksTabled s) (greenTabled s) (tableTabled s) (s .kind) l) ∙ fields p in
       let m = and-right (leb 2 (s .bits)) _ t in
@@ -83,7 +83,7 @@ module _ (again : Bool) (h n : ℕ) (s : Step) where
         long = lengths p ∙ byKind-blocks (blockBytes s h) 0 (4 * s .size) (s .kind) l;
       }
 
-  valid-table : Passed again h n s → s .kind ≡ 3 → ValidTable s
+  valid-table : Passed again h ds s → s .kind ≡ 3 → ValidTable s
   valid-table p e =
       let t = sym (byKind-3 (blocksTabled s) (blocksTabled s) (greenTabled s) (tableTabled s) (s .kind) e) ∙ fields p in
       let m = and-right (eqb (s .bits) 0) _ t in
@@ -93,42 +93,42 @@ module _ (again : Bool) (h n : ℕ) (s : Step) where
         long = lengths p ∙ byKind-3 (blockBytes s h) (blockBytes s h) 0 (4 * s .size) (s .kind) e;
       }
 
-  pub passed-valid : Passed again h n s → ValidStep s h n
+  pub passed-valid : Passed again h ds s → ValidStep s h (length ds)
   passed-valid p = record {
     known = ltb-false 3 (s .kind) (p .known);
-    inside = ltb-false n (s .offset + s .length) (p .inside);
+    inside = ltb-false (length ds) (s .offset + s .length) (p .inside);
     blocks = valid-blocks p;
     table = valid-table p;
   }
 
 -- the first k records
 
-module _ (cs : List ℕ) (w h n : ℕ) where
+module _ (cs : List ℕ) (w h : ℕ) (ds : List ℕ) where
   -- the refusal of one record more: an earlier one's, or its own
-  pub records-refused : (k : ℕ) → (recordsRefusal cs w h n k ≡ 0 → ⊥) → recordsRefusal cs w h n (suc k) ≡ recordsRefusal cs w h n k
+  pub records-refused : (k : ℕ) → (recordsRefusal cs w h ds k ≡ 0 → ⊥) → recordsRefusal cs w h ds (suc k) ≡ recordsRefusal cs w h ds k
   unfolding recordsRefusal
-  records-refused k m = before-some (recordsRefusal cs w h n k) _ m
+  records-refused k m = before-some (recordsRefusal cs w h ds k) _ m
 
-  pub records-next : (k : ℕ) → recordsRefusal cs w h n k ≡ 0 → recordsRefusal cs w h n (suc k) ≡ number (checked (usedBefore cs k) h n (stepAt cs w k))
+  pub records-next : (k : ℕ) → recordsRefusal cs w h ds k ≡ 0 → recordsRefusal cs w h ds (suc k) ≡ number (checked (usedBefore cs k) h ds (stepAt cs w k))
   unfolding recordsRefusal
-  records-next k e = before-none (recordsRefusal cs w h n k) _ e
+  records-next k e = before-none (recordsRefusal cs w h ds k) _ e
 
-  records-zero : (k : ℕ) → recordsRefusal cs w h n (suc k) ≡ 0 → (recordsRefusal cs w h n k ≡ 0) × (number (checked (usedBefore cs k) h n (stepAt cs w k)) ≡ 0)
+  records-zero : (k : ℕ) → recordsRefusal cs w h ds (suc k) ≡ 0 → (recordsRefusal cs w h ds k ≡ 0) × (number (checked (usedBefore cs k) h ds (stepAt cs w k)) ≡ 0)
   unfolding recordsRefusal
-  records-zero k e = before-zero (recordsRefusal cs w h n k) _ e
+  records-zero k e = before-zero (recordsRefusal cs w h ds k) _ e
 
-  stays : (d j : ℕ) → recordsRefusal cs w h n (d + j) ≡ 0 → recordsRefusal cs w h n j ≡ 0
+  stays : (d j : ℕ) → recordsRefusal cs w h ds (d + j) ≡ 0 → recordsRefusal cs w h ds j ≡ 0
   stays zero j e = rw zero-add at e
   stays (suc d) j e =
       let m : suc d + j ≡ suc (d + j) = omega arith in
       stays d j (records-zero (d + j) (rw m at e) .0)
 
-  pub refusal-stays : (j k : ℕ) → j ≤ k → recordsRefusal cs w h n k ≡ 0 → recordsRefusal cs w h n j ≡ 0
+  pub refusal-stays : (j k : ℕ) → j ≤ k → recordsRefusal cs w h ds k ≡ 0 → recordsRefusal cs w h ds j ≡ 0
   refusal-stays j k l e =
       let m : k ≡ (k - j) + j = omega arith in
       stays (k - j) j (rw m at e)
 
-  lasts : (d j : ℕ) → (recordsRefusal cs w h n j ≡ 0 → ⊥) → recordsRefusal cs w h n (d + j) ≡ recordsRefusal cs w h n j
+  lasts : (d j : ℕ) → (recordsRefusal cs w h ds j ≡ 0 → ⊥) → recordsRefusal cs w h ds (d + j) ≡ recordsRefusal cs w h ds j
   lasts zero j m = rw zero-add refl
   lasts (suc d) j m =
       let e : suc d + j ≡ suc (d + j) = omega arith in
@@ -136,13 +136,13 @@ module _ (cs : List ℕ) (w h n : ℕ) where
       rw e (records-refused (d + j) (λ z. m (sym r ∙ z)) ∙ r)
 
   -- a refusal is that of any records more
-  pub refusal-lasts : (j k : ℕ) → j ≤ k → (recordsRefusal cs w h n j ≡ 0 → ⊥) → recordsRefusal cs w h n k ≡ recordsRefusal cs w h n j
+  pub refusal-lasts : (j k : ℕ) → j ≤ k → (recordsRefusal cs w h ds j ≡ 0 → ⊥) → recordsRefusal cs w h ds k ≡ recordsRefusal cs w h ds j
   refusal-lasts j k l m =
       let e : k ≡ (k - j) + j = omega arith in
-      ap (recordsRefusal cs w h n) e ∙ lasts (k - j) j m
+      ap (recordsRefusal cs w h ds) e ∙ lasts (k - j) j m
 
-  pub records-passed : (k j : ℕ) → j < k → recordsRefusal cs w h n k ≡ 0 → Passed (usedBefore cs j) h n (stepAt cs w j)
-  records-passed k j l e = passed (usedBefore cs j) h n (stepAt cs w j) (records-zero j (refusal-stays (suc j) k l e) .1)
+  pub records-passed : (k j : ℕ) → j < k → recordsRefusal cs w h ds k ≡ 0 → Passed (usedBefore cs j) h ds (stepAt cs w j)
+  records-passed k j l e = passed (usedBefore cs j) h ds (stepAt cs w j) (records-zero j (refusal-stays (suc j) k l e) .1)
 
 -- a kind that is not used before
 pub used-once : (cs : List ℕ) (w k : ℕ) → usedBefore cs k ≡ false → (j : ℕ) → j < k → stepAt cs w j .kind ≡ stepAt cs w k .kind → ⊥
@@ -161,23 +161,23 @@ pub record Fits (s : Step) (a b : ℕ) : Type 0 where
 
 -- the chain
 
-module _ (w h : ℕ) (cs : List ℕ) (n : ℕ) where
+module _ (w h : ℕ) (cs ds : List ℕ) where
   -- refusals 1 and 2, and that of the records
-  pub chain-unsized : (inRange w && inRange h) ≡ false → chainRefusal w h cs n ≡ 1
-  unfolding chainRefusal
+  pub chain-unsized : (inRange w && inRange h) ≡ false → inputRefusal w h cs ds ≡ 1
+  unfolding inputRefusal sizeRefusal chainRefusal
   chain-unsized e = rw e
 
-  pub chain-broken : (inRange w && inRange h) ≡ true → wholeRecords cs ≡ false → chainRefusal w h cs n ≡ 2
-  unfolding chainRefusal
+  pub chain-broken : (inRange w && inRange h) ≡ true → wholeRecords cs ≡ false → inputRefusal w h cs ds ≡ 2
+  unfolding inputRefusal sizeRefusal chainRefusal
   chain-broken e p = rw (e, p)
 
-  pub chain-records : (inRange w && inRange h) ≡ true → wholeRecords cs ≡ true → chainRefusal w h cs n ≡ recordsRefusal cs w h n (count cs)
-  unfolding chainRefusal
+  pub chain-records : (inRange w && inRange h) ≡ true → wholeRecords cs ≡ true → inputRefusal w h cs ds ≡ recordsRefusal cs w h ds (count cs)
+  unfolding inputRefusal sizeRefusal chainRefusal
   chain-records e p = rw (e, p)
 
-module _ (w h : ℕ) (cs : List ℕ) (n : ℕ) (valid : chainRefusal w h cs n ≡ 0) where
-  tests : ((inRange w && inRange h) ≡ true) × (wholeRecords cs ≡ true) × (recordsRefusal cs w h n (count cs) ≡ 0)
-  unfolding chainRefusal
+module _ (w h : ℕ) (cs ds : List ℕ) (valid : inputRefusal w h cs ds ≡ 0) where
+  tests : ((inRange w && inRange h) ≡ true) × (wholeRecords cs ≡ true) × (recordsRefusal cs w h ds (count cs) ≡ 0)
+  unfolding inputRefusal sizeRefusal chainRefusal
   tests =
       let a = before-zero (1 unless (inRange w && inRange h)) _ valid in
       let b = before-zero (2 unless wholeRecords cs) _ (a .1) in
@@ -200,14 +200,14 @@ module _ (w h : ℕ) (cs : List ℕ) (n : ℕ) (valid : chainRefusal w h cs n �
   pub valid-count : count cs ≤ 4
   valid-count = omega (arith, valid-short)
 
-  pub valid-records : recordsRefusal cs w h n (count cs) ≡ 0
+  pub valid-records : recordsRefusal cs w h ds (count cs) ≡ 0
   valid-records = tests .2
 
-  valid-passed : (k : ℕ) → k < count cs → Passed (usedBefore cs k) h n (stepAt cs w k)
-  valid-passed k l = records-passed cs w h n (count cs) k l valid-records
+  valid-passed : (k : ℕ) → k < count cs → Passed (usedBefore cs k) h ds (stepAt cs w k)
+  valid-passed k l = records-passed cs w h ds (count cs) k l valid-records
 
-  pub valid-step : (k : ℕ) → k < count cs → ValidStep (stepAt cs w k) h n
-  valid-step k l = passed-valid (usedBefore cs k) h n (stepAt cs w k) (valid-passed k l)
+  pub valid-step : (k : ℕ) → k < count cs → ValidStep (stepAt cs w k) h (length ds)
+  valid-step k l = passed-valid (usedBefore cs k) h ds (stepAt cs w k) (valid-passed k l)
 
   pub valid-known : KnownKinds cs w (count cs)
   valid-known k l = valid-step k l .known

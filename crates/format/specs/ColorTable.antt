@@ -1,4 +1,5 @@
--- The color indexing transform (RFC 9649, "Color Indexing Transform"; document 01, module 4). `size` is how many entries the table has, `e` gives them.
+-- The color indexing transform (RFC 9649, "Color Indexing Transform"; document 01, module 4). `size` is how many entries
+-- the table has, `e` gives them.
 use mathlib.Core.Bool.{Bool}
 use Prim.Native.Nat.{ℕ, zero, suc, _+_, _*_, _/_, _%_, _^_}
 use lib.Dec.{leb, ltb}
@@ -11,9 +12,13 @@ use Rattle.format.specs.Picture.{Picture, ceiling}
 unfoldable pub perPixel : ℕ → ℕ
 perPixel size = if leb size 2 then 8 else if leb size 4 then 4 else if leb size 16 then 2 else 1
 
--- one more than the largest index, where a packed pixel holds n
+-- how many bits an index has where a packed pixel holds n, 8 >> width_bits in the RFC's terms; and one more than the
+-- largest index
+abbrev pub indexBits : ℕ → ℕ
+indexBits n = 8 / n
+
 abbrev pub range : ℕ → ℕ
-range n = 2 ^ (8 / n)
+range n = 2 ^ indexBits n
 
 -- the packed columns of w expanded ones
 abbrev pub packedWidth : ℕ → ℕ → ℕ
@@ -21,9 +26,9 @@ packedWidth size w = ceiling w (perPixel size)
 
 -- rebuilding
 
--- index k of the packed byte b, lowest bits first
-abbrev pub indexIn : ℕ → ℕ → ℕ → ℕ
-indexIn n b k = b / range n ^ k % range n
+-- index k of the packed byte b, lowest bits first: b shifted right by k indices, and of that the bits of one
+unfoldable pub indexIn : ℕ → ℕ → ℕ → ℕ
+indexIn n b k = b / 2 ^ (indexBits n * k) % 2 ^ indexBits n
 
 -- an index at or past size gives (0, 0, 0, 0)
 abbrev pub entry : ℕ → Picture → ℕ → Pixel
@@ -31,7 +36,9 @@ entry size e i = if ltb i size then e i else clear
 
 -- column x of row y: its packed pixel is number x / n of the row, and byte 1 of that holds its index at x % n
 abbrev pub unpackedAt : ℕ → ℕ → Picture → Picture → ℕ → ℕ → Pixel
-unpackedAt w size e g x y = entry size e (indexIn (perPixel size) (g (y * packedWidth size w + x / perPixel size) .green) (x % perPixel size))
+unpackedAt w size e g x y =
+    let n = perPixel size in
+    entry size e (indexIn n (g (y * packedWidth size w + x / n) .green) (x % n))
 
 unfoldable pub unpacked : ℕ → ℕ → Picture → Picture → Picture
 unpacked w size e g q = unpackedAt w size e g (q % w) (q / w)
@@ -50,9 +57,9 @@ indexOf size e v = lowest e v size 0
 abbrev pub hasEntry : ℕ → Picture → Pixel → Bool
 hasEntry size e v = ltb (indexOf size e v) size
 
--- storing accepts a picture of m pixels if every one of them has an entry
-abbrev pub accepted : ℕ → Picture → ℕ → Picture → Bool
-accepted size e m f = every m (λ q. hasEntry size e (f q))
+-- each of the first m pixels of f has an entry
+abbrev pub haveEntries : ℕ → Picture → ℕ → Picture → Bool
+haveEntries size e m f = every m (λ q. hasEntry size e (f q))
 
 -- n digits to the base u, lowest first
 unfoldable pub digits : ℕ → ℕ → (ℕ → ℕ) → ℕ

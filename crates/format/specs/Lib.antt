@@ -1,4 +1,5 @@
--- What RFC 9649 and document 01 say of pixels, as definitions that compute. They need no code to be read: `Pixel` is a record of four numbers.
+-- What RFC 9649 and document 01 say of pixels, as definitions that compute. They need no code to be read: `Pixel` is a
+-- record of four numbers.
 pub mod Choice
 pub mod Indices
 pub mod Byte
@@ -14,7 +15,9 @@ pub mod Chain
 pub mod Refusals
 pub mod Stages
 pub mod Made
+pub mod Lists
 pub mod Retouch
 pub mod Calls
 pub mod Desk
+pub mod Promises
 pub mod ValidStep

@@ -1,7 +1,8 @@
 -- Refusals 1 to 7 (document 01, "What a call returns"), each under its condition and in its order.
--- cs is the chain, w and h the picture's width and height, n the data's length.
-use mathlib.Core.Bool.{Bool, not, _&&_}
+-- cs is the chain, w and h the picture's width and height, ds the data.
+use mathlib.Core.Bool.{Bool, not, _&&_, _||_}
 use mathlib.Core.List.{List}
+use mathlib.Core.Path.{_≡_}
 use Prim.Native.Nat.{ℕ, zero, suc, _+_, _*_, _%_, _^_}
 use lib.Dec.{eqb, leb, ltb}
 use lib.ListN.{length}
@@ -37,13 +38,13 @@ unfoldable pub tabledLength : Step → ℕ → ℕ
 tabledLength s h = byKind (s .kind) (blockBytes s h) (blockBytes s h) 0 (4 * s .size)
 
 -- tests 3 to 7 in turn
-unfoldable pub checked : Bool → ℕ → ℕ → Step → Checked
-checked again h n s =
+unfoldable pub checked : Bool → ℕ → List ℕ → Step → Checked
+checked again h ds s =
     if ltb 3 (s .kind) then UnknownKind
     else if again then KindAgain
     else if not (tabled s) then NotTabled
     else if not (eqb (s .length) (tabledLength s h)) then WrongLength
-    else if ltb n (s .offset + s .length) then BeyondData
+    else if ltb (length ds) (s .offset + s .length) then BeyondData
     else Taken s
 
 -- document 01's number for what a check finds; 0 is no refusal
@@ -65,10 +66,15 @@ infixr 2 _before_
 abbrev pub _before_ : ℕ → ℕ → ℕ
 a before b = if eqb a 0 then b else a
 
+-- a number that is no refusal: refusals are 1 to 255
+abbrev pub accepted : ℕ → Bool
+accepted n = eqb n 0 || leb 256 n
+
 -- the refusal of the first k records
-unfoldable pub recordsRefusal : List ℕ → ℕ → ℕ → ℕ → ℕ → ℕ
-recordsRefusal cs w h n zero = 0
-recordsRefusal cs w h n (suc k) = recordsRefusal cs w h n k before number (checked (usedBefore cs k) h n (stepAt cs w k))
+unfoldable pub recordsRefusal : List ℕ → ℕ → ℕ → List ℕ → ℕ → ℕ
+recordsRefusal cs w h ds zero = 0
+recordsRefusal cs w h ds (suc k) =
+    recordsRefusal cs w h ds k before number (checked (usedBefore cs k) h ds (stepAt cs w k))
 
 abbrev pub inRange : ℕ → Bool
 inRange x = leb 1 x && leb x 16384
@@ -76,6 +82,18 @@ inRange x = leb 1 x && leb x 16384
 abbrev pub wholeRecords : List ℕ → Bool
 wholeRecords cs = eqb (length cs % 16) 0 && leb (length cs) 64
 
--- refusals 1 to 7. A chain is valid, for its width, height and data, if none of 2 to 7 applies
-unfoldable pub chainRefusal : ℕ → ℕ → List ℕ → ℕ → ℕ
-chainRefusal w h cs n = (1 unless (inRange w && inRange h)) before (2 unless wholeRecords cs) before recordsRefusal cs w h n (count cs)
+-- refusal 1
+unfoldable pub sizeRefusal : ℕ → ℕ → ℕ
+sizeRefusal w h = 1 unless (inRange w && inRange h)
+
+-- refusals 2 to 7
+unfoldable pub chainRefusal : ℕ → ℕ → List ℕ → List ℕ → ℕ
+chainRefusal w h cs ds = (2 unless wholeRecords cs) before recordsRefusal cs w h ds (count cs)
+
+-- a chain is valid, for its width, height and data, if none of them applies
+abbrev pub ValidChain : ℕ → ℕ → List ℕ → List ℕ → Type 0
+ValidChain w h cs ds = chainRefusal w h cs ds ≡ 0
+
+-- refusals 1 to 7
+unfoldable pub inputRefusal : ℕ → ℕ → List ℕ → List ℕ → ℕ
+inputRefusal w h cs ds = sizeRefusal w h before chainRefusal w h cs ds

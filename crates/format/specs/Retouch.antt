@@ -6,12 +6,13 @@ use lib.Dec.{eqb, ltb}
 use Rattle.format.specs.Choice.{if_then_else_, bit}
 use Rattle.format.specs.Indices.{some, among, union}
 use Rattle.format.specs.declared.Step.{Step}
+use Rattle.format.specs.declared.Made.the-variants.{Missing}
 use Rattle.format.specs.Pixel.{equal}
 use Rattle.format.specs.Picture.{Picture}
 use Rattle.format.specs.ColorTable.{perPixel, packedWidth}
 use Rattle.format.specs.Refusals.{_before_, _unless_}
 use Rattle.format.specs.Stages.{stored}
-use Rattle.format.specs.Made.{missing}
+use Rattle.format.specs.Made.{missing, madeNumber}
 
 -- the five spots of item p in a stage of w columns, in order
 abbrev pub fiveSpots : ℕ → ℕ → List ℕ
@@ -21,7 +22,8 @@ fiveSpots w p = p ∷ (p + 1) ∷ (p + w - 1) ∷ (p + w) ∷ (p + w + 1) ∷ []
 abbrev pub packedOver : ℕ → ℕ → ℕ → ℕ
 packedOver w size q = q / w * packedWidth size w + q % w / perPixel size
 
--- the item that holds item q after a record that is not the predictor's: a table packs it, the other kinds leave it where it is
+-- the item that holds item q after a record that is not the predictor's: a table packs it, the other kinds leave it
+-- where it is
 abbrev pub placeOf : Step → ℕ → ℕ
 placeOf s q = if eqb (s .kind) 3 then packedOver (s .width) (s .size) q else q
 
@@ -29,11 +31,12 @@ placeOf s q = if eqb (s .kind) 3 then packedOver (s .width) (s .size) q else q
 unfoldable pub spotsOf : Step → ℕ → List ℕ
 spotsOf s q = if eqb (s .kind) 0 then fiveSpots (s .width) q else (placeOf s q ∷ [])
 
--- the records, after the first k of a chain, that the spots of pixel p belong to: up to the predictor one item holds p, its five spots are made there, and each
--- is in one record. Without a predictor p is the only spot. A spot is outside its stage exactly if its record is past the strip's last (proofs/Spots.antt)
-unfoldable pub spotRecords : (ℕ → Step) → ℕ → ℕ → List ℕ
-spotRecords steps zero p = p ∷ []
-spotRecords steps (suc k) p = union (spotsOf (steps k)) (spotRecords steps k p)
+-- the records, after the first k of a chain, that the spots of the pixels ps belong to. Of one pixel: up to the predictor
+-- one item holds it, its five spots are made there, and each is in one record; without a predictor it is the only spot.
+-- A spot is outside its stage exactly if its record is past the strip's last (proofs/Spots.antt)
+unfoldable pub spotRecords : (ℕ → Step) → ℕ → List ℕ → List ℕ
+spotRecords steps zero ps = ps
+spotRecords steps (suc k) ps = union (spotsOf (steps k)) (spotRecords steps k ps)
 
 -- record r is one of the first n, and a and b differ in it
 abbrev pub differ : ℕ → Picture → Picture → ℕ → Bool
@@ -66,16 +69,18 @@ module _ (steps : ℕ → Step) (ds : List ℕ) (k : ℕ) where
   unfoldable pub remade : Picture → List ℕ → Picture → Picture
   remade f rs strip r = if among r rs then stored steps ds k f r else strip r
 
-  -- pixel p was painted, which gave the picture f
-  unfoldable pub newStrip : Picture → ℕ → Picture → Picture
-  newStrip f p strip = remade f (spotRecords steps k p) strip
+  -- the pixels ps were painted, which gave the picture f
+  unfoldable pub newStrip : Picture → List ℕ → Picture → Picture
+  newStrip f ps strip = remade f (spotRecords steps k ps) strip
 
   -- the strip has n records
-  module _ (n : ℕ) (f : Picture) (p : ℕ) (strip : Picture) where
+  module _ (n : ℕ) (f : Picture) where
     -- which records changed, spot by spot
-    unfoldable pub changes : List Bool
-    changes = marks (differ n strip (newStrip f p strip)) [] (spotRecords steps k p)
+    unfoldable pub changes : List ℕ → Picture → List Bool
+    changes ps strip = marks (differ n strip (newStrip f ps strip)) [] (spotRecords steps k ps)
 
-    -- 22, or which records changed and how many
-    unfoldable pub pointAnswer : ℕ
-    pointAnswer = (22 unless not (unmade n f (spotRecords steps k p))) before answer (ones changes) (maskOf changes)
+    -- of one pixel p: 22, or which records changed and how many
+    unfoldable pub pointAnswer : ℕ → Picture → ℕ
+    pointAnswer p strip =
+        (madeNumber Missing unless not (unmade n f (spotRecords steps k (p ∷ []))))
+        before answer (ones (changes (p ∷ []) strip)) (maskOf (changes (p ∷ []) strip))

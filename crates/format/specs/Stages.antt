@@ -10,26 +10,31 @@ use Rattle.format.specs.Picture.{Picture, pixels}
 use Rattle.format.specs.Predictor.{residuals, fromResiduals}
 use Rattle.format.specs.Color.{colorStored, colorRebuilt}
 use Rattle.format.specs.SubtractGreen.{greenStored, greenRebuilt}
-use Rattle.format.specs.ColorTable.{packed, unpacked, accepted}
+use Rattle.format.specs.ColorTable.{packed, unpacked, haveEntries}
 use Rattle.format.specs.Chain.{byKind}
 
--- the pixels of the part of the data that a record names
+-- the part of the data that a record names, and its pixels
+abbrev pub dataOf : Step → List ℕ → List ℕ
+dataOf s ds = take (s .length) (drop (s .offset) ds)
+
 abbrev pub partOf : Step → List ℕ → Picture
-partOf s ds = pixels (take (s .length) (drop (s .offset) ds))
+partOf s ds = pixels (dataOf s ds)
 
 unfoldable pub forward : Step → List ℕ → Picture → Picture
 forward s ds f =
-    byKind (s .kind) (residuals (s .width) (s .bits) (partOf s ds) f) (colorStored (s .width) (s .bits) (partOf s ds) f) (greenStored f)
-    (packed (s .width) (s .size) (partOf s ds) f)
+    let d = partOf s ds in
+    byKind (s .kind) (residuals (s .width) (s .bits) d f) (colorStored (s .width) (s .bits) d f) (greenStored f)
+    (packed (s .width) (s .size) d f)
 
 unfoldable pub backward : Step → ℕ → List ℕ → Picture → Picture
 backward s h ds g =
-    byKind (s .kind) (fromResiduals (s .width) (s .bits) (partOf s ds) (h * s .width) g) (colorRebuilt (s .width) (s .bits) (partOf s ds) g) (greenRebuilt g)
-    (unpacked (s .width) (s .size) (partOf s ds) g)
+    let d = partOf s ds in
+    byKind (s .kind) (fromResiduals (s .width) (s .bits) d (h * s .width) g) (colorRebuilt (s .width) (s .bits) d g)
+    (greenRebuilt g) (unpacked (s .width) (s .size) d g)
 
 -- a record takes a picture: every pixel that reaches a table has an entry
 unfoldable pub takes : Step → ℕ → List ℕ → Picture → Bool
-takes s h ds f = if eqb (s .kind) 3 then accepted (s .size) (partOf s ds) (h * s .width) f else true
+takes s h ds f = if eqb (s .kind) 3 then haveEntries (s .size) (partOf s ds) (h * s .width) f else true
 
 -- the records of a chain, by their numbers
 module _ (steps : ℕ → Step) where

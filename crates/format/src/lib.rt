@@ -33,3 +33,9 @@ pub enum Checked {
     // Offset + length beyond the data.
     BeyondData,
 }
+
+// What making an item of a stage gives: the item, or none where a pixel without entry reaches the table in it.
+pub enum Made {
+    Item(Pixel),
+    Missing,
+}

@@ -1,7 +1,7 @@
 -- Pixels made each from the pixel that stands in its place: a turn of a loop, a row in a buffer or lent, and the whole.
 use mathlib.Core.List.{List}
 use mathlib.Core.Path.{_≡_, ap, _∙_}
-use Prim.Native.Nat.{ℕ, _+_, _-_, _*_, _<_, _≤_}
+use Prim.Native.Nat.{ℕ, _+_, _-_, _*_, _<_, _≤_, min}
 use native.Mathlib.Nat.{le-refl}
 use native.Mathlib.Omega.{arith}
 use lib.ListN.{length}
@@ -13,6 +13,7 @@ use Rattle.pixel.specs.Held.{HoldsRow}
 use Rattle.pixel.proofs.Cells.{run-more}
 use Rattle.pixel.proofs.Front.{pixels-run}
 use Rattle.pixel.proofs.Held.{held-run}
+use Rattle.pixel.proofs.Rows.{run-zero}
 use Rattle.pixel.proofs.Part.{back, part, part-back}
 use Rattle.color.specs.Row.{pointwise}
 
@@ -22,6 +23,22 @@ module _ (k : ℕ → Pixel → Pixel) where
       → ys ≡ run pixelCells (pointwise k) a (i + 1 - a) xs₀
   unfolding pointwise
   turn a i xs₀ xs ys u v e q r p l = p ∙ run-more pixelCells (pointwise k) a i xs₀ xs v l e (r ∙ ap (k i) q)
+
+  -- the pixels before i are made, and none past w
+  abbrev pub Within : ℕ → ℕ → List ℕ → List ℕ → Type 0
+  Within i w xs₀ xs = xs ≡ run pixelCells (pointwise k) 0 (min i w) xs₀
+
+  pub within-none : (w : ℕ) (xs : List ℕ) → Within 0 w xs xs
+  within-none w xs = let z : min 0 w ≡ 0 = omega arith in rw z (run-zero (pointwise k) xs)
+
+  pub within-turn : (i w : ℕ) (xs₀ xs ys : List ℕ) (u v : Pixel) → Within i w xs₀ xs → u ≡ pixels xs i → v ≡ k i u → ys ≡ putPixel xs i v → i < w → Within (i + 1) w xs₀ ys
+  within-turn i w xs₀ xs ys u v e q r p l =
+      let a : min i w ≡ i - 0 = omega arith in
+      let b : min (i + 1) w ≡ i + 1 - 0 = omega arith in
+      rw b (turn 0 i xs₀ xs ys u v (rw a at e) q r p (omega arith))
+
+  pub within-done : (i w : ℕ) (xs₀ xs : List ℕ) → Within i w xs₀ xs → w ≤ i → xs ≡ run pixelCells (pointwise k) 0 w xs₀
+  within-done i w xs₀ xs e l = let z : min i w ≡ w = omega arith in rw z at e
 
   -- once all rows are done: the rule in order is the rule at each index, since a pixel is read before it is replaced
   pub finished : (y h w : ℕ) (xs ys : List ℕ) → ys ≡ run pixelCells (pointwise k) 0 (y * w) xs → y ≡ h → 4 * (h * w) ≤ length xs → ys ≡ written (h * w) (λ q. k q (pixels xs q)) xs

@@ -104,7 +104,7 @@ fn store_segment(row: &mut [u8], from: usize, to: usize, e: Pixel)
 }
 
 // A row, with the data of its row of blocks.
-pub fn rebuild_row(row: &mut [u8], width: usize, bits: u32, blocks: &[u8])
+fn rebuild_row(row: &mut [u8], width: usize, bits: u32, blocks: &[u8])
     requires { ⌜ BlockedRow width bits (now blocks) ⌝ }
     requires { ⌜ 4 * width ≤ length (now row) ⌝ }
     ensures { λ _. ⌜ now (row .exit) ≡ run pixelCells (pointwise (inRow inverseColor bits (pixels (now (blocks .entry))))) 0 width (now (row .entry)) ⌝ }

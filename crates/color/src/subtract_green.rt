@@ -36,15 +36,15 @@ pub fn store_pixel(v: Pixel) -> Pixel
     }
 }
 
-pub fn rebuild_row(row: &mut [u8], width: usize)
+fn rebuild_row(row: &mut [u8], width: usize)
     requires { ⌜ 4 * width ≤ length (now row) ⌝ }
     ensures { λ _. ⌜ now (row .exit) ≡ run pixelCells (pointwise (everywhere addGreen)) 0 width (now (row .entry)) ⌝ }
 {
-    let mut i = 0;
-    while i < width {
-        let v = rebuild_pixel(read_pixel(row, i));
-        write_pixel(row, i, v);
-        i += 1;
+    let mut x = 0;
+    while x < width {
+        let v = rebuild_pixel(read_pixel(row, x));
+        write_pixel(row, x, v);
+        x += 1;
     }
 }
 

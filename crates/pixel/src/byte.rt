@@ -22,15 +22,13 @@ pub fn average4(a: u8, b: u8, c: u8, d: u8) -> u8
     average2(average2(a, b), average2(c, d))
 }
 
-// a - b, or 0 where that is less than 0.
-fn less(a: u8, b: u8) -> u8
+fn saturating_sub(a: u8, b: u8) -> u8
     ensures { λ r. ⌜ r ≡ a - b ⌝ }
 {
     if a < b { 0 } else { a - b }
 }
 
-// a + b, or 255 where that is more.
-fn more(a: u8, b: u8) -> u8
+fn saturating_add(a: u8, b: u8) -> u8
     ensures { λ r. ⌜ r ≡ min 255 (a + b) ⌝ }
 {
     if a <= 255 - b { a + b } else { 255 }
@@ -40,18 +38,18 @@ fn more(a: u8, b: u8) -> u8
 pub fn clamp_add_subtract_full(l: u8, t: u8, tl: u8) -> u8
     ensures { λ r. ⌜ r ≡ clampFull l t tl ⌝ }
 {
-    let up = less(t, tl);
-    let down = less(tl, t);
-    less(more(l, up), down)
+    let up = saturating_sub(t, tl);
+    let down = saturating_sub(tl, t);
+    saturating_sub(saturating_add(l, up), down)
 }
 
 pub fn clamp_add_subtract_half(l: u8, t: u8, tl: u8) -> u8
     ensures { λ r. ⌜ r ≡ clampHalf l t tl ⌝ }
 {
     let m = average2(l, t);
-    let up = less(m, tl) / 2;
-    let down = less(tl, m) / 2;
-    less(more(m, up), down)
+    let up = saturating_sub(m, tl) / 2;
+    let down = saturating_sub(tl, m) / 2;
+    saturating_sub(saturating_add(m, up), down)
 }
 
 fn greater(a: u8, b: u8) -> u8

@@ -2,12 +2,12 @@
 use mathlib.Core.List.{List}
 use mathlib.Core.Path.{_≡_, sym, ap, _∙_}
 use Prim.Native.Nat.{ℕ, _+_, _-_, _*_, _/_, _%_, _^_, _≤_, _<_}
-use native.Mathlib.Nat.{div-eq-of-lt, mod-eq-of-lt}
+use native.Mathlib.Nat.{zero-add, zero-mul, div-eq-of-lt, mod-eq-of-lt}
 use native.Mathlib.Decide.{ℕ-discrete}
 use native.Mathlib.Omega.{arith}
 use borrow.Author.Tests.{eq-eqb, ne-eqb}
 use lib.Arith.{digits-div, digits-mod}
-use lib.ListN.{take, drop}
+use lib.ListN.{length, take, drop}
 use Rattle.format.specs.declared.Pixel.{Pixel}
 use Rattle.format.specs.Byte.{add}
 use Rattle.format.specs.Pixel.{each}
@@ -131,3 +131,21 @@ first-row w bits D xs ys zs e f h =
     ∙ run-same pixelCells pixel-lawful (gains (around 1 w)) (gained w bits D) 1 ys (w - 1)
     (λ i l u vs a b. ap (each add (pixels vs i)) (sym (predicted-left w bits D (pixels vs) i l (omega arith)))))
     (omega arith)
+
+-- its part of the picture, which starts with it, comes back as ys
+module _ (w bits : ℕ) (D : Picture) where
+  gained-first : (p q : ℕ → Pixel) (i : ℕ) → i < w → ((j : ℕ) → j < w → p j ≡ q j) → gained w bits D p i ≡ gained w bits D q i
+  unfolding gained predict
+  gained-first p q i l agree = go (ℕ-discrete i 0)
+    where
+      go : Dec (i ≡ 0) → each add (p i) (predicted w bits D p (i % w) (i / w)) ≡ each add (q i) (predicted w bits D q (i % w) (i / w))
+      go (yes z) = rw z (cc (agree 0 (omega arith), predicted-first w bits D p (omega arith), predicted-first w bits D q (omega arith)))
+      go (no n) =
+          cc (agree i l, agree (i - 1) (omega arith), predicted-left w bits D p i (omega arith) l, predicted-left w bits D q i (omega arith) l)
+
+  pub first-back : (y k : ℕ) (xs ys : List ℕ) → ys ≡ run pixelCells (gained w bits D) 0 w (take k (drop 0 xs)) → y ≡ 0 → k ≡ 4 * w → 4 * w ≤ length xs
+      → back 0 k xs ys ≡ run pixelCells (gained w bits D) (y * w) w xs
+  first-back y k xs ys e z f fits =
+      rw (e, f, z, zero-mul)
+      (part-run (gained w bits D) (gained w bits D) 0 w 0 xs (omega arith) w (omega arith)
+      (λ p q i l u agree. rw zero-add (gained-first p q i (omega arith) (λ j o. rw zero-add at (agree j o)))))

@@ -4,20 +4,20 @@ use crate::row::rebuild_row;
 use crate::segment::apply_predictor_transform_0;
 use pixel::block::subsample_size;
 ghost use mathlib.Core.Path.{_≡_};
-ghost use Prim.Native.Nat.{_*_, _<_, _≤_};
+ghost use Prim.Native.Nat.{ℕ, _*_, _<_, _≤_};
 ghost use lib.ListN.{length};
-ghost use Rattle.format.specs.Picture.{pixels, written};
+ghost use Rattle.format.specs.Picture.{Picture, pixels, written};
 ghost use Rattle.format.specs.Predictor.{gained, fromResiduals};
 ghost use Rattle.pixel.specs.Cells.{pixelCells, run};
 ghost use Rattle.format.specs.Sizes.{Sized, Holds, Blocked};
 
-// Row 0: the first pixel as mode 0, the rest as L.
-fn rebuild_first_row(image: &mut [u8], width: usize, bits: u32, blocks: &[u8])
-    requires { ⌜ (1 ≤ width) × (4 * width ≤ length (now image)) ⌝ }
-    ensures { λ _. ⌜ now (image .exit) ≡ run pixelCells (gained width bits (pixels (now (blocks .entry)))) 0 width (now (image .entry)) ⌝ }
+// Row 0, whatever its blocks say: the first pixel as mode 0, the rest as L.
+fn rebuild_first_row(row: &mut [u8], width: usize)
+    requires { ⌜ (1 ≤ width) × (4 * width ≤ length (now row)) ⌝ }
+    ensures { λ _. ⌜ ((bits : ℕ) (d : Picture) → now (row .exit) ≡ run pixelCells (gained width bits d) 0 width (now (row .entry))) ⌝ }
 {
-    apply_predictor_transform_0(image, width, 0, 1);
-    apply_predictor_transform_1(image, width, 1, width);
+    apply_predictor_transform_0(row, width, 0, 1);
+    apply_predictor_transform_1(row, width, 1, width);
 }
 
 // A row off the first.
@@ -60,7 +60,8 @@ pub fn rebuild_row_at(
     ensures { λ _. ⌜ now (image .exit) ≡ run pixelCells (gained width bits (pixels (now (blocks .entry)))) (y * width) width (now (image .entry)) ⌝ }
 {
     if y == 0 {
-        rebuild_first_row(image, width, bits, blocks);
+        let b = 4 * width;
+        rebuild_first_row(&mut image[0..b], width);
     } else {
         rebuild_row_below(image, width, height, bits, blocks, y);
     }

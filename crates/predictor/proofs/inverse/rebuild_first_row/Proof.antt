@@ -11,4 +11,4 @@ rebuild-first-row-spec =
     (λ c κs. search needs)
     (λ c κs. search needs)
     (λ c. search needs)
-    (λ c. first-row _ _ _ _ _ _ (c .before .before .before .before .before .before .apply-predictor-transform-0 .ensures) (c .before .before .apply-predictor-transform-1 .ensures) (search needs)))
+    (λ c bits d. first-row _ bits d _ _ _ (c .before .before .before .before .before .before .apply-predictor-transform-0 .ensures) (c .before .before .apply-predictor-transform-1 .ensures) (search needs)))

@@ -6,7 +6,7 @@ use Prim.Native.Nat.{ℕ, suc, _+_, _-_, _*_, _<_, _≤_}
 use native.Mathlib.Decide.{decLt}
 use native.Mathlib.Omega.{arith}
 use Rattle.format.specs.Picture.{Picture}
-use Rattle.format.specs.ColorTable.{accepted}
+use Rattle.format.specs.ColorTable.{haveEntries}
 use Rattle.format.specs.Stages.{partOf, takes, stored}
 use Rattle.format.proofs.ByKind.{takes-table}
 use Rattle.pixel.specs.Held.{HoldsRow}
@@ -45,14 +45,14 @@ module _ (c : Chain) (ds : List ℕ) (v : Valid c ds) (t : ℕ) (at : TableAt c 
 
   module _ (l : t < c .count) where
     -- over all rows of its stage
-    pub table-accepts : (f : Picture) (b : Bool) → b ≡ accepted (stepsOf c t .size) (partOf (stepsOf c t) ds) (c .height * stepsOf c t .width) (storedBy c ds t f)
+    pub table-accepts : (f : Picture) (b : Bool) → b ≡ haveEntries (stepsOf c t .size) (partOf (stepsOf c t) ds) (c .height * stepsOf c t .width) (storedBy c ds t f)
         → b ≡ acceptsBy c ds (c .count) f
     table-accepts f b q = accepts-by f b l (q ∙ sym (takes-table (stepsOf c t) (c .height) ds (storedBy c ds t f) (at .kind l)))
 
     pub table-held : (f : Picture) (y : ℕ) (row : List ℕ) → RowOf c ds t f y row → HoldsRow (storedBy c ds t f) y (stepsOf c t .width) row
     table-held f y row r = rw (v .width t l) r
 
-    pub all-rows : (f : Picture) (y : ℕ) → accepted (stepsOf c t .size) (partOf (stepsOf c t) ds) (y * stepsOf c t .width) (storedBy c ds t f) ≡ true → y ≡ c .height
+    pub all-rows : (f : Picture) (y : ℕ) → haveEntries (stepsOf c t .size) (partOf (stepsOf c t) ds) (y * stepsOf c t .width) (storedBy c ds t f) ≡ true → y ≡ c .height
         → true ≡ acceptsBy c ds (c .count) f
     all-rows f y a q = table-accepts f true (sym (rw q at a))
 

@@ -7,7 +7,7 @@ use native.Mathlib.Omega.{arith}
 use lib.ListN.{length}
 use Rattle.format.specs.declared.Step.{Step}
 use Rattle.format.specs.Picture.{Picture, pixels, written}
-use Rattle.format.specs.ColorTable.{packedWidth, packed, accepted}
+use Rattle.format.specs.ColorTable.{packedWidth, packed, haveEntries}
 use Rattle.format.specs.Chain.{narrowed}
 use Rattle.format.specs.Stages.{partOf, forward, stored, takes, accepts}
 use Rattle.format.proofs.ByKind.{forward-3, narrowed-table, takes-table}
@@ -22,7 +22,7 @@ use Rattle.store.proofs.Packed.{packed-in, row-accepted}
 use Rattle.store.proofs.Stages.{accepts-at}
 
 module _ (s : Step) (h : ℕ) (ds : List ℕ) (y : ℕ) (bs : List ℕ) (kind : s .kind ≡ 3) (fits : 4 * (y * s .width) + 4 * s .width ≤ length bs) where
-  pub first-accepted : takes s h ds (pixels bs) ≡ true → y < h → accepted (s .size) (partOf s ds) (s .width) (pixels (part (y * s .width) (s .width) bs)) ≡ true
+  pub first-accepted : takes s h ds (pixels bs) ≡ true → y < h → haveEntries (s .size) (partOf s ds) (s .width) (pixels (part (y * s .width) (s .width) bs)) ≡ true
   first-accepted t l =
       row-accepted (s .width) h (s .size) y (partOf s ds) (pixels bs) (part (y * s .width) (s .width) bs) (sym (takes-table s h ds (pixels bs) kind) ∙ t) (held-part y (s .width) bs fits) l
 

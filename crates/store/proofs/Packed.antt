@@ -14,13 +14,13 @@ use Rattle.format.specs.declared.Step.{Step}
 use Rattle.format.specs.Choice.{every}
 use Rattle.format.specs.Pixel.{pixel}
 use Rattle.format.specs.Picture.{Picture, pixels}
-use Rattle.format.specs.ColorTable.{perPixel, range, packedWidth, indexOf, hasEntry, accepted, digits, indexAt, packed}
+use Rattle.format.specs.ColorTable.{perPixel, range, packedWidth, indexOf, hasEntry, haveEntries, digits, indexAt, packed}
 use Rattle.format.specs.Sizes.{Sized}
 use Rattle.format.specs.ValidStep.{ValidStep}
 use Rattle.format.proofs.Choice.{if-same, every-at, and-both}
 use Rattle.format.proofs.ColorTable.{perPixel-pos}
 use Rattle.color_table.proofs.Rows.{packed-fewer}
-use Rattle.chain.specs.Reading.{dataOf}
+use Rattle.format.specs.Stages.{dataOf}
 use Rattle.store.specs.Stage.{TableStep}
 use Rattle.pixel.specs.Held.{HoldsRow}
 
@@ -44,7 +44,7 @@ every-all zero t h = refl
 every-all (suc n) t h = and-both (t n) (every n t) (h n (omega arith)) (every-all n t (λ q l. h q (omega arith)))
 
 -- a row of an accepted picture
-pub row-accepted : (w h size y : ℕ) (e f : Picture) (xs : List ℕ) → accepted size e (h * w) f ≡ true → HoldsRow f y w xs → y < h → accepted size e w (pixels xs) ≡ true
+pub row-accepted : (w h size y : ℕ) (e f : Picture) (xs : List ℕ) → haveEntries size e (h * w) f ≡ true → HoldsRow f y w xs → y < h → haveEntries size e w (pixels xs) ≡ true
 row-accepted w h size y e f xs a r l =
     every-all w (λ q. hasEntry size e (pixels xs q)) (λ x u. rw (r x u) (every-at (h * w) (λ q. hasEntry size e (f q)) (y * w + x) (digits-lt l u) a))
 

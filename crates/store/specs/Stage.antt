@@ -7,7 +7,7 @@ use lib.ListN.{length}
 use Rattle.format.specs.declared.Step.{Step}
 use Rattle.format.specs.Choice.{if_then_else_}
 use Rattle.format.specs.Picture.{Picture, pixels, written}
-use Rattle.format.specs.ColorTable.{packedWidth, packed, accepted}
+use Rattle.format.specs.ColorTable.{packedWidth, packed, haveEntries}
 use Rattle.format.specs.Chain.{narrowed}
 use Rattle.format.specs.Refusals.{_unless_}
 use Rattle.format.specs.Stages.{partOf, forward}
@@ -31,15 +31,18 @@ pub record TableStep (s : Step) (ds : List ℕ) : Type 0 where
 -- what a table asks of a row: hints for its entries, and an entry for each pixel
 pub record Takes (s : Step) (ds row hints : List ℕ) : Type 0 where
   pub found : s .kind ≡ 3 → Hints (s .size) (partOf s ds) hints
-  pub taken : s .kind ≡ 3 → accepted (s .size) (partOf s ds) (s .width) (pixels row) ≡ true
+  pub taken : s .kind ≡ 3 → haveEntries (s .size) (partOf s ds) (s .width) (pixels row) ≡ true
 
 -- row′ begins with the records of row by the table s
 abbrev pub PackedRow : Step → List ℕ → List ℕ → List ℕ → Type 0
-PackedRow s ds row row′ = (x : ℕ) → x < packedWidth (s .size) (s .width) → pixels row′ x ≡ packed (s .width) (s .size) (partOf s ds) (pixels row) x
+PackedRow s ds row row′ =
+    (x : ℕ) → x < packedWidth (s .size) (s .width) → pixels row′ x ≡ packed (s .width) (s .size) (partOf s ds) (pixels row) x
 
--- a record has made row′ of row, and rows′ of rows: the predictor finds the row above in rows, and leaves the row there; other records leave rows
+-- a record has made row′ of row, and rows′ of rows: the predictor finds the row above in rows, and leaves the row there;
+-- other records leave rows
 pub record Advanced (s : Step) (ds : List ℕ) (y : ℕ) (row rows row′ rows′ : List ℕ) : Type 0 where
-  pub made : (f : Picture) → HoldsRow f y (s .width) row → (s .kind ≡ 0 → 1 ≤ y → HoldsRow f (y - 1) (s .width) rows) → HoldsRow (forward s ds f) y (narrowed s) row′
+  pub made : (f : Picture) → HoldsRow f y (s .width) row → (s .kind ≡ 0 → 1 ≤ y → HoldsRow f (y - 1) (s .width) rows)
+      → HoldsRow (forward s ds f) y (narrowed s) row′
   pub left : (f : Picture) → HoldsRow f y (s .width) row → s .kind ≡ 0 → HoldsRow f y (s .width) rows′
   pub kept : (s .kind ≡ 0 → ⊥) → SameFirst rows rows′
 
@@ -72,10 +75,12 @@ pub record Started (c : Chain) (ds : List ℕ) (m : ℕ) (f : Picture) (y r : �
   pub table : 1 ≤ r → stepsOf c 0 .kind ≡ 3
   pub held : RowOf c ds r f y row
 
--- rows holds, for a predictor among the first k of m records, row y of its stage, and for one that is to come the row above
+-- rows holds, for a predictor among the first k of m records, row y of its stage, and for one that is to come the row
+-- above
 pub record Above (c : Chain) (ds : List ℕ) (f : Picture) (m k y : ℕ) (rows : List ℕ) : Type 0 where
   pub done : (j : ℕ) → j < k → stepsOf c j .kind ≡ 0 → HoldsRow (storedBy c ds j f) y (stepsOf c j .width) rows
-  pub wait : (j : ℕ) → k ≤ j → j < m → stepsOf c j .kind ≡ 0 → 1 ≤ y → HoldsRow (storedBy c ds j f) (y - 1) (stepsOf c j .width) rows
+  pub wait : (j : ℕ) → k ≤ j → j < m → stepsOf c j .kind ≡ 0 → 1 ≤ y
+      → HoldsRow (storedBy c ds j f) (y - 1) (stepsOf c j .width) rows
 
 -- all records
 
@@ -87,11 +92,12 @@ pub record TableAlone (c : Chain) : Type 0 where
 abbrev pub Accepts : Chain → List ℕ → ℕ → Picture → Type 0
 Accepts c ds m f = acceptsBy c ds m f ≡ true
 
--- the strip that holds the picture f stored
-abbrev pub stripOf : Chain → List ℕ → Picture → List ℕ → List ℕ
-stripOf c ds f strip = written (recordsIn c) (storedBy c ds (c .count) f) strip
+-- the strip once the picture is stored
+abbrev pub stripAfter : Chain → List ℕ → List ℕ → List ℕ → List ℕ
+stripAfter c ds picture strip = written (recordsIn c) (storedBy c ds (c .count) (pixels picture)) strip
 
--- what storing answers, and the strip that it leaves: 0 and the picture stored where it accepts, else 21 and the strip as it was
-pub record Stored (c : Chain) (ds : List ℕ) (f : Picture) (strip : List ℕ) (r : ℕ) (strip′ : List ℕ) : Type 0 where
-  pub answer : r ≡ (21 unless acceptsBy c ds (c .count) f)
-  pub bytes : strip′ ≡ (if acceptsBy c ds (c .count) f then stripOf c ds f strip else strip)
+-- what storing answers, and the strip that it leaves: 0 and the picture stored where it accepts, else 21 and the strip
+-- as it was
+pub record Stored (c : Chain) (ds picture strip : List ℕ) (r : ℕ) (strip′ : List ℕ) : Type 0 where
+  pub answer : r ≡ (21 unless acceptsBy c ds (c .count) (pixels picture))
+  pub bytes : strip′ ≡ (if acceptsBy c ds (c .count) (pixels picture) then stripAfter c ds picture strip else strip)

@@ -1,4 +1,5 @@
-// Whether storing accepts a picture: each pixel that reaches the table has an entry. No byte of the strip is written here.
+// Whether storing accepts a picture: each pixel that reaches the table has an entry. No byte of the strip is written
+// here.
 use crate::row::make_row;
 use chain::Chain;
 use chain::part_of;
@@ -95,7 +96,8 @@ pub fn accept_picture(
     rows: &mut [u8],
     hints: &[u8],
 ) -> bool
-    requires { ⌜ Storing chain (now «data») (now picture) (now hints) × Scratch (now row) (now rows) × TableAt chain t ⌝ }
+    requires { ⌜ Storing chain (now «data») (now picture) (now hints) × Scratch (now row) (now rows) ⌝ }
+    requires { ⌜ TableAt chain t ⌝ }
     ensures { λ r. ⌜ r ≡ acceptsBy chain (now («data» .entry)) (chain .count) (pixels (now (picture .entry))) ⌝ }
 {
     if t < chain.count {

@@ -47,7 +47,8 @@ pub fn pack_first(
     requires { ⌜ Holds (s .width) height (now picture) × (4 * narrowed s ≤ length (now row)) ⌝ }
     requires { ⌜ Hints (s .size) (partOf s (now «data»)) (now hints) ⌝ }
     requires { ⌜ takes s height (now «data») (pixels (now picture)) ≡ true ⌝ }
-    ensures { λ _. ⌜ HoldsRow (forward s (now («data» .entry)) (pixels (now (picture .entry)))) y (narrowed s) (now (row .exit)) ⌝ }
+    ensures { λ _. ⌜ HoldsRow (forward s (now («data» .entry)) (pixels (now (picture .entry)))) y (narrowed s)
+        (now (row .exit)) ⌝ }
 {
     let a = 4 * (y * s.width);
     let b = a + 4 * s.width;
@@ -62,7 +63,8 @@ pub fn pack_first(
     );
 }
 
-// Row y made ready in `row`: as it is in the picture, or packed where the first record is a table. The number of records done is returned.
+// Row y made ready in `row`: as it is in the picture, or packed where the first record is a table. The number of records
+// done is returned.
 fn start_row(
     chain: Chain,
     m: usize,

@@ -1,4 +1,5 @@
-// One record's transform of one row, which stands in the scratch `row`. `rows` holds the row above where the predictor needs it; its second half is free.
+// One record's transform of one row, which stands in the scratch `row`. `rows` holds the row above where the predictor
+// needs it; its second half is free.
 use crate::rows::copy_pixels;
 use crate::rows::move_up;
 use chain::part_of;
@@ -11,7 +12,7 @@ ghost use mathlib.Core.Bool.{true};
 ghost use Prim.Native.Nat.{_<_};
 ghost use lib.ListN.{length};
 ghost use Rattle.format.specs.Picture.{pixels};
-ghost use Rattle.format.specs.ColorTable.{accepted};
+ghost use Rattle.format.specs.ColorTable.{haveEntries};
 ghost use Rattle.format.specs.Sizes.{Sized};
 ghost use Rattle.format.specs.ValidStep.{ValidStep};
 ghost use Rattle.format.specs.Stages.{partOf};
@@ -23,7 +24,8 @@ ghost use Rattle.store.specs.Stage.{TableStep, Takes, PackedRow, Advance
 fn predict_row(s: Step, height: usize, data: &[u8], y: usize, row: &mut [u8], rows: &mut [u8])
     requires { ⌜ Sized (s .width) height × ValidStep s height (length (now «data»)) × (s .kind ≡ 0) × (y < height) ⌝ }
     requires { ⌜ Scratch (now row) (now rows) ⌝ }
-    ensures { λ _. ⌜ Advanced s (now («data» .entry)) y (now (row .entry)) (now (rows .entry)) (now (row .exit)) (now (rows .exit)) ⌝ }
+    ensures { λ _. ⌜ Advanced s (now («data» .entry)) y (now (row .entry)) (now (rows .entry)) (now (row .exit))
+        (now (rows .exit)) ⌝ }
 {
     let w = s.width;
     let a = 4 * w;
@@ -38,7 +40,7 @@ fn predict_row(s: Step, height: usize, data: &[u8], y: usize, row: &mut [u8], ro
 fn pack_accepted(s: Step, data: &[u8], row: &mut [u8], free: &mut [u8], hints: &[u8])
     requires { ⌜ TableStep s (now «data») × (length (now row) ≡ 65536) × (length (now free) ≡ 65536) ⌝ }
     requires { ⌜ Hints (s .size) (partOf s (now «data»)) (now hints) ⌝ }
-    requires { ⌜ accepted (s .size) (partOf s (now «data»)) (s .width) (pixels (now row)) ≡ true ⌝ }
+    requires { ⌜ haveEntries (s .size) (partOf s (now «data»)) (s .width) (pixels (now row)) ≡ true ⌝ }
     ensures { λ _. ⌜ PackedRow s (now («data» .entry)) (now (row .entry)) (now (row .exit)) ⌝ }
 {
     let expanded = Expanded(s.width);
@@ -60,7 +62,8 @@ pub fn advance(
     requires { ⌜ Sized (s .width) height × ValidStep s height (length (now «data»)) × (y < height) ⌝ }
     requires { ⌜ Scratch (now row) (now rows) ⌝ }
     requires { ⌜ Takes s (now «data») (now row) (now hints) ⌝ }
-    ensures { λ _. ⌜ Advanced s (now («data» .entry)) y (now (row .entry)) (now (rows .entry)) (now (row .exit)) (now (rows .exit)) ⌝ }
+    ensures { λ _. ⌜ Advanced s (now («data» .entry)) y (now (row .entry)) (now (rows .entry)) (now (row .exit))
+        (now (rows .exit)) ⌝ }
 {
     let kind = s.kind;
     match kind {

@@ -14,7 +14,7 @@ ghost use Rattle.format.specs.Picture.{pixels};
 ghost use Rattle.format.specs.Calls.{storeAnswer, storeStrip};
 ghost use Rattle.chain.specs.Valid.{Valid, stepsOf, HoldsPicture, HoldsStrip};
 ghost use Rattle.store.specs.Scratch.{Scratch};
-ghost use Rattle.store.specs.Stage.{TableAt, HintsFor, Storing, Accepts, TableAlone, stripOf, Stored};
+ghost use Rattle.store.specs.Stage.{TableAt, HintsFor, Storing, Accepts, TableAlone, stripAfter, Stored};
 
 // The rows of an accepted picture.
 fn store_rows(
@@ -26,9 +26,9 @@ fn store_rows(
     rows: &mut [u8],
     hints: &[u8],
 )
-    requires { ⌜ Storing chain (now «data») (now picture) (now hints) × Scratch (now row) (now rows) × HoldsStrip chain (now strip) ⌝ }
-    requires { ⌜ Accepts chain (now «data») (chain .count) (pixels (now picture)) ⌝ }
-    ensures { λ _. ⌜ now (strip .exit) ≡ stripOf chain (now («data» .entry)) (pixels (now (picture .entry))) (now (strip .entry)) ⌝ }
+    requires { ⌜ Storing chain (now «data») (now picture) (now hints) × Scratch (now row) (now rows) ⌝ }
+    requires { ⌜ HoldsStrip chain (now strip) × Accepts chain (now «data») (chain .count) (pixels (now picture)) ⌝ }
+    ensures { λ _. ⌜ now (strip .exit) ≡ stripAfter chain (now («data» .entry)) (now (picture .entry)) (now (strip .entry)) ⌝ }
 {
     let width = chain.strip.0;
     let mut y = 0;
@@ -55,9 +55,9 @@ fn table_alone(chain: Chain) -> bool
 
 // The rows of an accepted picture packed where they stand in the strip, by a table alone.
 fn pack_rows(chain: Chain, data: &[u8], picture: &[u8], strip: &mut [u8], hints: &[u8])
-    requires { ⌜ Storing chain (now «data») (now picture) (now hints) × TableAlone chain × HoldsStrip chain (now strip) ⌝ }
-    requires { ⌜ Accepts chain (now «data») (chain .count) (pixels (now picture)) ⌝ }
-    ensures { λ _. ⌜ now (strip .exit) ≡ stripOf chain (now («data» .entry)) (pixels (now (picture .entry))) (now (strip .entry)) ⌝ }
+    requires { ⌜ Storing chain (now «data») (now picture) (now hints) × TableAlone chain ⌝ }
+    requires { ⌜ HoldsStrip chain (now strip) × Accepts chain (now «data») (chain .count) (pixels (now picture)) ⌝ }
+    ensures { λ _. ⌜ now (strip .exit) ≡ stripAfter chain (now («data» .entry)) (now (picture .entry)) (now (strip .entry)) ⌝ }
 {
     let steps = chain.steps;
     let width = chain.strip.0;
@@ -80,8 +80,8 @@ fn pack_rows(chain: Chain, data: &[u8], picture: &[u8], strip: &mut [u8], hints:
 
 // Test 21, then the rows, by a table alone.
 fn store_table(chain: Chain, data: &[u8], picture: &[u8], strip: &mut [u8]) -> u32
-    requires { ⌜ Valid chain (now «data») × HoldsPicture chain (now picture) × HoldsStrip chain (now strip) × TableAlone chain ⌝ }
-    ensures { λ r. ⌜ Stored chain (now («data» .entry)) (pixels (now (picture .entry))) (now (strip .entry)) r (now (strip .exit)) ⌝ }
+    requires { ⌜ Valid chain (now «data») × TableAlone chain × HoldsPicture chain (now picture) × HoldsStrip chain (now strip) ⌝ }
+    ensures { λ r. ⌜ Stored chain (now («data» .entry)) (now (picture .entry)) (now (strip .entry)) r (now (strip .exit)) ⌝ }
 {
     let steps = chain.steps;
     let hints = hints_at(chain, 0, data);
@@ -96,7 +96,7 @@ fn store_table(chain: Chain, data: &[u8], picture: &[u8], strip: &mut [u8]) -> u
 // Test 21, then the rows, by whatever records.
 fn store_steps(chain: Chain, data: &[u8], picture: &[u8], strip: &mut [u8]) -> u32
     requires { ⌜ Valid chain (now «data») × HoldsPicture chain (now picture) × HoldsStrip chain (now strip) ⌝ }
-    ensures { λ r. ⌜ Stored chain (now («data» .entry)) (pixels (now (picture .entry))) (now (strip .entry)) r (now (strip .exit)) ⌝ }
+    ensures { λ r. ⌜ Stored chain (now («data» .entry)) (now (picture .entry)) (now (strip .entry)) r (now (strip .exit)) ⌝ }
 {
     let mut row = [0u8; 65536];
     let mut rows = [0u8; 131072];
@@ -113,7 +113,7 @@ fn store_steps(chain: Chain, data: &[u8], picture: &[u8], strip: &mut [u8]) -> u
 // A valid chain whose buffers have room. A table alone needs no scratch rows.
 fn store_valid(chain: Chain, data: &[u8], picture: &[u8], strip: &mut [u8]) -> u32
     requires { ⌜ Valid chain (now «data») × HoldsPicture chain (now picture) × HoldsStrip chain (now strip) ⌝ }
-    ensures { λ r. ⌜ Stored chain (now («data» .entry)) (pixels (now (picture .entry))) (now (strip .entry)) r (now (strip .exit)) ⌝ }
+    ensures { λ r. ⌜ Stored chain (now («data» .entry)) (now (picture .entry)) (now (strip .entry)) r (now (strip .exit)) ⌝ }
 {
     if table_alone(chain) {
         return store_table(chain, data, picture, strip);
@@ -130,8 +130,10 @@ pub fn store(
     picture: &[u8],
     strip: &mut [u8],
 ) -> u32
-    ensures { λ r. ⌜ r ≡ storeAnswer width height (now (chain .entry)) (now («data» .entry)) (now (picture .entry)) (now (strip .entry)) ⌝ }
-    ensures { λ r. ⌜ now (strip .exit) ≡ storeStrip width height (now (chain .entry)) (now («data» .entry)) (now (picture .entry)) (now (strip .entry)) ⌝ }
+    ensures { λ r. ⌜ r ≡ storeAnswer width height (now (chain .entry)) (now («data» .entry)) (now (picture .entry))
+        (now (strip .entry)) ⌝ }
+    ensures { λ r. ⌜ now (strip .exit) ≡ storeStrip width height (now (chain .entry)) (now («data» .entry))
+        (now (picture .entry)) (now (strip .entry)) ⌝ }
 {
     let read = open(width, height, chain, data, picture, strip);
     if read.refusal != 0 {

@@ -1,10 +1,10 @@
--- `accept_rows` meets its contract: before each turn the rows before y are accepted, and the row above is at hand.
+-- `accept_rows` meets its contract: before each turn the rows before y are haveEntries, and the row above is at hand.
 use mathlib.Core.Bool.{true}
 use mathlib.Core.Path.{_≡_, sym, _∙_}
 use Prim.Native.Nat.{_*_, _-_, _≤_}
 use native.Mathlib.Omega.{arith}
 use Rattle.format.specs.Picture.{pixels}
-use Rattle.format.specs.ColorTable.{accepted}
+use Rattle.format.specs.ColorTable.{haveEntries}
 use Rattle.format.specs.Stages.{partOf}
 use Rattle.chain.specs.Valid.{stepsOf, storedBy}
 use Rattle.chain.proofs.Parts.{part-entries}
@@ -20,7 +20,7 @@ use Rattle.store.proofs.accept.accept_rows.Tie as tie
 
 abbrev Inv-loop : tie.InvT-loop
 Inv-loop chain t «data» picture row₀ rows₀ hints s entries y₀ row rows y =
-    (y ≤ chain .height) × Scratch row rows × (accepted (s .size) (partOf s «data») (y * s .width) (storedBy chain «data» t (pixels picture)) ≡ true)
+    (y ≤ chain .height) × Scratch row rows × (haveEntries (s .size) (partOf s «data») (y * s .width) (storedBy chain «data» t (pixels picture)) ≡ true)
     × Above chain «data» (pixels picture) t 0 y rows
 
 abbrev μ-loop : tie.MeasureT-loop

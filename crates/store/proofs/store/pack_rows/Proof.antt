@@ -32,26 +32,26 @@ pack-rows-spec =
     Inv-loop
     μ-loop
     (λ c. (omega arith, refl, no-rows _ _ _))
-    (λ c. omega (arith, row-there (c .before .before .before .before .before .before .before .before .args .chain .strip .0) (c .before .before .before .before .before .before .before .before .args .chain .height) (c .before .before .loop .y) (c .if1 .taken), c .before .before .before .before .before .before .before .before .pre .0 .2, c .before .before .loop .inv .1))
-    (λ c. omega (arith, row-there (c .before .before .before .before .before .before .before .before .args .chain .strip .0) (c .before .before .before .before .before .before .before .before .args .chain .height) (c .before .before .loop .y) (c .if1 .taken), c .before .before .before .before .before .before .before .before .pre .0 .2, c .before .before .loop .inv .1))
-    (λ c. omega (arith, row-there (c .before .before .before .before .before .before .before .before .args .chain .strip .0) (c .before .before .before .before .before .before .before .before .args .chain .height) (c .before .before .loop .y) (c .if1 .taken), c .before .before .before .before .before .before .before .before .pre .0 .2, c .before .before .loop .inv .1))
-    (λ c. omega (arith, row-there (c .before .before .before .before .before .before .before .before .args .chain .strip .0) (c .before .before .before .before .before .before .before .before .args .chain .height) (c .before .before .loop .y) (c .if1 .taken), c .before .before .before .before .before .before .before .before .pre .0 .2, c .before .before .loop .inv .1))
+    (λ c. omega (arith, row-there (c .before .before .before .before .before .before .before .before .args .chain .strip .0) (c .before .before .before .before .before .before .before .before .args .chain .height) (c .before .before .loop .y) (c .if1 .taken), c .before .before .before .before .before .before .before .before .pre .1 .0, c .before .before .loop .inv .1))
+    (λ c. omega (arith, row-there (c .before .before .before .before .before .before .before .before .args .chain .strip .0) (c .before .before .before .before .before .before .before .before .args .chain .height) (c .before .before .loop .y) (c .if1 .taken), c .before .before .before .before .before .before .before .before .pre .1 .0, c .before .before .loop .inv .1))
+    (λ c. omega (arith, row-there (c .before .before .before .before .before .before .before .before .args .chain .strip .0) (c .before .before .before .before .before .before .before .before .args .chain .height) (c .before .before .loop .y) (c .if1 .taken), c .before .before .before .before .before .before .before .before .pre .1 .0, c .before .before .loop .inv .1))
+    (λ c. omega (arith, row-there (c .before .before .before .before .before .before .before .before .args .chain .strip .0) (c .before .before .before .before .before .before .before .before .args .chain .height) (c .before .before .loop .y) (c .if1 .taken), c .before .before .before .before .before .before .before .before .pre .1 .0, c .before .before .loop .inv .1))
     (λ c. search needs)
     (λ c. search needs)
     (λ c. search needs)
-    (λ c. omega (arith, row-there (c .before .before .before .before .before .before .before .before .before .args .chain .strip .0) (c .before .before .before .before .before .before .before .before .before .args .chain .height) (c .before .before .before .loop .y) (c .before .if1 .taken), c .before .before .before .before .before .before .before .before .before .pre .0 .2, c .before .before .before .loop .inv .1))
+    (λ c. omega (arith, row-there (c .before .before .before .before .before .before .before .before .before .args .chain .strip .0) (c .before .before .before .before .before .before .before .before .before .args .chain .height) (c .before .before .before .loop .y) (c .before .if1 .taken), c .before .before .before .before .before .before .before .before .before .pre .1 .0, c .before .before .before .loop .inv .1))
     (λ c κs.
     let p = c .before .before .before .before .before .before .before .before .before .before .pre in
     let a = c .before .before .before .before .before .before .before .before .before .before .args in
     let l = c .before .before .before .before .loop in
     let z = p .0 .0 in
     let i : 0 < a .chain .count = omega (arith, p .0 .1 .one) in
-    let r : 4 * (l .y * a .chain .strip .0) + 4 * a .chain .strip .0 ≤ length (l .strip) = omega (arith, row-there (c .before .before .before .before .before .before .before .before .before .before .args .chain .strip .0) (c .before .before .before .before .before .before .before .before .before .before .args .chain .height) (c .before .before .before .before .loop .y) (c .before .before .if1 .taken), c .before .before .before .before .before .before .before .before .before .before .pre .0 .2, c .before .before .before .before .loop .inv .1) in
+    let r : 4 * (l .y * a .chain .strip .0) + 4 * a .chain .strip .0 ≤ length (l .strip) = omega (arith, row-there (c .before .before .before .before .before .before .before .before .before .before .args .chain .strip .0) (c .before .before .before .before .before .before .before .before .before .before .args .chain .height) (c .before .before .before .before .loop .y) (c .before .before .if1 .taken), c .before .before .before .before .before .before .before .before .before .before .pre .1 .0, c .before .before .before .before .loop .inv .1) in
     let e = alone-width (a .chain) (a .«data» .now) (pixels (a .picture .now)) (p .0 .1) (z .valid) in (
       (step-sized _ _ (z .valid) 0 i, z .valid .step 0 i, p .0 .1 .kind, c .before .before .if1 .taken),
       (
         (rw (z .valid .width 0 i) (z .held), omega (arith, part-room (l .y) (a .chain .strip .0) (l .strip) r)),
-        (z .found .found 0 i (p .0 .1 .kind), sym (alone-accepts _ _ _ (p .0 .1)) ∙ p .1),
+        (z .found .found 0 i (p .0 .1 .kind), sym (alone-accepts _ _ _ (p .0 .1)) ∙ p .1 .1),
       ),
     ))
     (λ c. omega (arith, c .before .before .before .before .before .before .before .before .before .before .before .before .before .pre .0 .0 .valid .sized .low, c .before .before .before .before .before .if1 .taken))
@@ -60,7 +60,7 @@ pack-rows-spec =
     let p = c .before .before .before .before .before .before .before .before .before .before .before .before .before .pre in
     let a = c .before .before .before .before .before .before .before .before .before .before .before .before .before .args in
     let l = c .before .before .before .before .before .before .before .loop in
-    let r : 4 * (l .y * a .chain .strip .0) + 4 * a .chain .strip .0 ≤ length (l .strip) = omega (arith, row-there (c .before .before .before .before .before .before .before .before .before .before .before .before .before .args .chain .strip .0) (c .before .before .before .before .before .before .before .before .before .before .before .before .before .args .chain .height) (c .before .before .before .before .before .before .before .loop .y) (c .before .before .before .before .before .if1 .taken), c .before .before .before .before .before .before .before .before .before .before .before .before .before .pre .0 .2, c .before .before .before .before .before .before .before .loop .inv .1) in
+    let r : 4 * (l .y * a .chain .strip .0) + 4 * a .chain .strip .0 ≤ length (l .strip) = omega (arith, row-there (c .before .before .before .before .before .before .before .before .before .before .before .before .before .args .chain .strip .0) (c .before .before .before .before .before .before .before .before .before .before .before .before .before .args .chain .height) (c .before .before .before .before .before .before .before .loop .y) (c .before .before .before .before .before .if1 .taken), c .before .before .before .before .before .before .before .before .before .before .before .before .before .pre .1 .0, c .before .before .before .before .before .before .before .loop .inv .1) in
     let e = alone-width (a .chain) (a .«data» .now) (pixels (a .picture .now)) (p .0 .1) (p .0 .0 .valid) in
     let h = rw (sym e) at (c .before .before .pack-first .ensures) in
     let k = c .before .before .pack-first .kept .1 .1 .1 .1 .1 .0 in (
@@ -73,4 +73,4 @@ pack-rows-spec =
     (λ c.
     let l = c .before .before .loop in
     let y : l .y ≡ c .before .before .before .before .before .before .before .before .args .chain .height = omega (arith, l .inv .0, c .if1 .left) in
-    rw (alone-stored (c .before .before .before .before .before .before .before .before .args .chain) (c .before .before .before .before .before .before .before .before .args .«data» .now) (pixels (c .before .before .before .before .before .before .before .before .args .picture .now)) (c .before .before .before .before .before .before .before .before .pre .0 .1)) (front-done _ _ _ _ _ (rw y at (l .inv .2)) refl (c .before .before .before .before .before .before .before .before .pre .0 .2))))
+    rw (alone-stored (c .before .before .before .before .before .before .before .before .args .chain) (c .before .before .before .before .before .before .before .before .args .«data» .now) (pixels (c .before .before .before .before .before .before .before .before .args .picture .now)) (c .before .before .before .before .before .before .before .before .pre .0 .1)) (front-done _ _ _ _ _ (rw y at (l .inv .2)) refl (c .before .before .before .before .before .before .before .before .pre .1 .0))))

@@ -38,18 +38,18 @@ store-rows-spec =
     (λ c κs.
     let p = c .before .before .before .before .before .before .before .before .before .before .before .pre in
     let l = c .before .before .before .before .loop in
-    ((p .0 .0, le-refl _, c .before .before .if1 .taken), ((p .1, l .inv .2), l .inv .4)))
-    (λ c. omega (arith, row-there (c .before .before .before .before .before .before .before .before .before .before .before .before .before .before .before .before .args .chain .strip .0) (c .before .before .before .before .before .before .before .before .before .before .before .before .before .before .before .before .args .chain .height) (c .before .before .before .before .before .before .before .before .before .loop .y) (c .before .before .before .before .before .before .before .if1 .taken), c .before .before .before .before .before .before .before .before .before .before .before .before .before .before .before .before .pre .0 .2, c .before .before .before .before .before .before .before .before .before .loop .inv .1))
-    (λ c. omega (arith, row-there (c .before .before .before .before .before .before .before .before .before .before .before .before .before .before .before .before .args .chain .strip .0) (c .before .before .before .before .before .before .before .before .before .before .before .before .before .before .before .before .args .chain .height) (c .before .before .before .before .before .before .before .before .before .loop .y) (c .before .before .before .before .before .before .before .if1 .taken), c .before .before .before .before .before .before .before .before .before .before .before .before .before .before .before .before .pre .0 .2, c .before .before .before .before .before .before .before .before .before .loop .inv .1))
-    (λ c. omega (arith, row-there (c .before .before .before .before .before .before .before .before .before .before .before .before .before .before .before .before .args .chain .strip .0) (c .before .before .before .before .before .before .before .before .before .before .before .before .before .before .before .before .args .chain .height) (c .before .before .before .before .before .before .before .before .before .loop .y) (c .before .before .before .before .before .before .before .if1 .taken), c .before .before .before .before .before .before .before .before .before .before .before .before .before .before .before .before .pre .0 .2, c .before .before .before .before .before .before .before .before .before .loop .inv .1))
-    (λ c. omega (arith, row-there (c .before .before .before .before .before .before .before .before .before .before .before .before .before .before .before .before .args .chain .strip .0) (c .before .before .before .before .before .before .before .before .before .before .before .before .before .before .before .before .args .chain .height) (c .before .before .before .before .before .before .before .before .before .loop .y) (c .before .before .before .before .before .before .before .if1 .taken), c .before .before .before .before .before .before .before .before .before .before .before .before .before .before .before .before .pre .0 .2, c .before .before .before .before .before .before .before .before .before .loop .inv .1))
+    ((p .0 .0, le-refl _, c .before .before .if1 .taken), ((p .1 .1, l .inv .2), l .inv .4)))
+    (λ c. omega (arith, row-there (c .before .before .before .before .before .before .before .before .before .before .before .before .before .before .before .before .args .chain .strip .0) (c .before .before .before .before .before .before .before .before .before .before .before .before .before .before .before .before .args .chain .height) (c .before .before .before .before .before .before .before .before .before .loop .y) (c .before .before .before .before .before .before .before .if1 .taken), c .before .before .before .before .before .before .before .before .before .before .before .before .before .before .before .before .pre .1 .0, c .before .before .before .before .before .before .before .before .before .loop .inv .1))
+    (λ c. omega (arith, row-there (c .before .before .before .before .before .before .before .before .before .before .before .before .before .before .before .before .args .chain .strip .0) (c .before .before .before .before .before .before .before .before .before .before .before .before .before .before .before .before .args .chain .height) (c .before .before .before .before .before .before .before .before .before .loop .y) (c .before .before .before .before .before .before .before .if1 .taken), c .before .before .before .before .before .before .before .before .before .before .before .before .before .before .before .before .pre .1 .0, c .before .before .before .before .before .before .before .before .before .loop .inv .1))
+    (λ c. omega (arith, row-there (c .before .before .before .before .before .before .before .before .before .before .before .before .before .before .before .before .args .chain .strip .0) (c .before .before .before .before .before .before .before .before .before .before .before .before .before .before .before .before .args .chain .height) (c .before .before .before .before .before .before .before .before .before .loop .y) (c .before .before .before .before .before .before .before .if1 .taken), c .before .before .before .before .before .before .before .before .before .before .before .before .before .before .before .before .pre .1 .0, c .before .before .before .before .before .before .before .before .before .loop .inv .1))
+    (λ c. omega (arith, row-there (c .before .before .before .before .before .before .before .before .before .before .before .before .before .before .before .before .args .chain .strip .0) (c .before .before .before .before .before .before .before .before .before .before .before .before .before .before .before .before .args .chain .height) (c .before .before .before .before .before .before .before .before .before .loop .y) (c .before .before .before .before .before .before .before .if1 .taken), c .before .before .before .before .before .before .before .before .before .before .before .before .before .before .before .before .pre .1 .0, c .before .before .before .before .before .before .before .before .before .loop .inv .1))
     (λ c. search needs)
     (λ c. search needs)
-    (λ c. omega (arith, row-there (c .before .before .before .before .before .before .before .before .before .before .before .before .before .before .before .before .before .args .chain .strip .0) (c .before .before .before .before .before .before .before .before .before .before .before .before .before .before .before .before .before .args .chain .height) (c .before .before .before .before .before .before .before .before .before .before .loop .y) (c .before .before .before .before .before .before .before .before .if1 .taken), c .before .before .before .before .before .before .before .before .before .before .before .before .before .before .before .before .before .pre .0 .2, c .before .before .before .before .before .before .before .before .before .before .loop .inv .1))
+    (λ c. omega (arith, row-there (c .before .before .before .before .before .before .before .before .before .before .before .before .before .before .before .before .before .args .chain .strip .0) (c .before .before .before .before .before .before .before .before .before .before .before .before .before .before .before .before .before .args .chain .height) (c .before .before .before .before .before .before .before .before .before .before .loop .y) (c .before .before .before .before .before .before .before .before .if1 .taken), c .before .before .before .before .before .before .before .before .before .before .before .before .before .before .before .before .before .pre .1 .0, c .before .before .before .before .before .before .before .before .before .before .loop .inv .1))
     (λ c κs.
     let a = c .before .before .before .before .before .before .before .before .before .before .before .before .before .before .before .before .before .before .args in
     let l = c .before .before .before .before .before .before .before .before .before .before .before .loop in
-    let r : 4 * (l .y * a .chain .strip .0) + 4 * a .chain .strip .0 ≤ length (l .strip) = omega (arith, row-there (c .before .before .before .before .before .before .before .before .before .before .before .before .before .before .before .before .before .before .args .chain .strip .0) (c .before .before .before .before .before .before .before .before .before .before .before .before .before .before .before .before .before .before .args .chain .height) (c .before .before .before .before .before .before .before .before .before .before .before .loop .y) (c .before .before .before .before .before .before .before .before .before .if1 .taken), c .before .before .before .before .before .before .before .before .before .before .before .before .before .before .before .before .before .before .pre .0 .2, c .before .before .before .before .before .before .before .before .before .before .before .loop .inv .1) in
+    let r : 4 * (l .y * a .chain .strip .0) + 4 * a .chain .strip .0 ≤ length (l .strip) = omega (arith, row-there (c .before .before .before .before .before .before .before .before .before .before .before .before .before .before .before .before .before .before .args .chain .strip .0) (c .before .before .before .before .before .before .before .before .before .before .before .before .before .before .before .before .before .before .args .chain .height) (c .before .before .before .before .before .before .before .before .before .before .before .loop .y) (c .before .before .before .before .before .before .before .before .before .if1 .taken), c .before .before .before .before .before .before .before .before .before .before .before .before .before .before .before .before .before .before .pre .1 .0, c .before .before .before .before .before .before .before .before .before .before .before .loop .inv .1) in
     let m = c .before .before .before .before .before .before .make-row .kept .1 .1 .1 .1 .1 .0 in
     (omega (arith, l .inv .2 .one, strip-fits _ _ (c .before .before .before .before .before .before .before .before .before .before .before .before .before .before .before .before .before .before .pre .0 .0 .valid)), part-room (l .y) (a .chain .strip .0) (l .strip) r))
     (λ c. omega (arith, c .before .before .before .before .before .before .before .before .before .before .before .before .before .before .before .before .before .before .before .before .before .pre .0 .0 .valid .sized .low, c .before .before .before .before .before .before .before .before .before .before .before .before .if1 .taken))
@@ -58,7 +58,7 @@ store-rows-spec =
     let p = c .before .before .before .before .before .before .before .before .before .before .before .before .before .before .before .before .before .before .before .before .before .pre in
     let a = c .before .before .before .before .before .before .before .before .before .before .before .before .before .before .before .before .before .before .before .before .before .args in
     let l = c .before .before .before .before .before .before .before .before .before .before .before .before .before .before .loop in
-    let r : 4 * (l .y * a .chain .strip .0) + 4 * a .chain .strip .0 ≤ length (l .strip) = omega (arith, row-there (c .before .before .before .before .before .before .before .before .before .before .before .before .before .before .before .before .before .before .before .before .before .args .chain .strip .0) (c .before .before .before .before .before .before .before .before .before .before .before .before .before .before .before .before .before .before .before .before .before .args .chain .height) (c .before .before .before .before .before .before .before .before .before .before .before .before .before .before .loop .y) (c .before .before .before .before .before .before .before .before .before .before .before .before .if1 .taken), c .before .before .before .before .before .before .before .before .before .before .before .before .before .before .before .before .before .before .before .before .before .pre .0 .2, c .before .before .before .before .before .before .before .before .before .before .before .before .before .before .loop .inv .1) in
+    let r : 4 * (l .y * a .chain .strip .0) + 4 * a .chain .strip .0 ≤ length (l .strip) = omega (arith, row-there (c .before .before .before .before .before .before .before .before .before .before .before .before .before .before .before .before .before .before .before .before .before .args .chain .strip .0) (c .before .before .before .before .before .before .before .before .before .before .before .before .before .before .before .before .before .before .before .before .before .args .chain .height) (c .before .before .before .before .before .before .before .before .before .before .before .before .before .before .loop .y) (c .before .before .before .before .before .before .before .before .before .before .before .before .if1 .taken), c .before .before .before .before .before .before .before .before .before .before .before .before .before .before .before .before .before .before .before .before .before .pre .1 .0, c .before .before .before .before .before .before .before .before .before .before .before .before .before .before .loop .inv .1) in
     let h = rw (sym (p .0 .0 .valid .strip)) at (c .before .before .before .before .before .before .before .before .before .make-row .ensures .0) in (
       omega (arith, c .before .before .before .before .before .before .before .before .before .before .before .before .if1 .taken),
       strip-length (l .y) (a .chain .strip .0) (l .strip) (c .before .before .copy-pixels .last .1 .0) (c .before .before .copy-pixels .kept .1 .0) r ∙ l .inv .1,
@@ -73,4 +73,4 @@ store-rows-spec =
     (λ c.
     let l = c .before .before .loop in
     let y : l .y ≡ c .before .before .before .before .before .before .before .before .before .args .chain .height = omega (arith, l .inv .0, c .if1 .left) in
-    front-done _ _ _ _ _ (rw y at (l .inv .3)) refl (c .before .before .before .before .before .before .before .before .before .pre .0 .2)))
+    front-done _ _ _ _ _ (rw y at (l .inv .3)) refl (c .before .before .before .before .before .before .before .before .before .pre .1 .0)))

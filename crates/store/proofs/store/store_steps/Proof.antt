@@ -13,13 +13,13 @@ store-steps-spec =
     (λ c. search needs)
     (λ c. search needs)
     (λ c. search needs)
-    (λ c κs. let p = c .before .before .before .before .before .before .before .before .pre in (record { valid = p .0; found = c .before .before .before .hints-at .ensures; held = p .1 }, search needs, c .before .before .before .before .table-at .ensures))
+    (λ c κs. let p = c .before .before .before .before .before .before .before .before .pre in ((record { valid = p .0; found = c .before .before .before .hints-at .ensures; held = p .1 }, search needs), c .before .before .before .before .table-at .ensures))
     (λ c. search needs)
     (λ c. search needs)
     (λ c. search needs)
     (λ c κs.
     let p = c .before .before .before .before .before .before .before .before .before .before .before .before .before .before .before .before .pre in
-    ((record { valid = p .0; found = c .before .before .before .before .before .before .before .before .before .before .before .hints-at .ensures; held = p .1 }, search needs, p .2), sym (c .before .before .before .before .before .before .before .accept-picture .ensures) ∙ c .before .before .before .before .if1 .taken))
+    ((record { valid = p .0; found = c .before .before .before .before .before .before .before .before .before .before .before .hints-at .ensures; held = p .1 }, search needs), (p .2, sym (c .before .before .before .before .before .before .before .accept-picture .ensures) ∙ c .before .before .before .before .if1 .taken)))
     (λ c. search needs)
     (λ c.
     let e = sym (c .before .before .before .before .before .before .before .before .before .before .before .before .accept-picture .ensures) ∙ c .before .before .before .before .before .before .before .before .before .if1 .taken in

@@ -8,7 +8,7 @@ store-valid-spec =
     tie.close
     (tie.spec
     (λ c κs. search needs)
-    (λ c κs. let p = c .before .before .before .before .before .before .pre in (p .0, p .1, p .2, c .before .before .table-alone .ensures (c .before .if1 .taken)))
+    (λ c κs. let p = c .before .before .before .before .before .before .pre in (p .0, c .before .before .table-alone .ensures (c .before .if1 .taken), p .1, p .2))
     (λ c. search needs)
     (λ c. c .before .before .store-table .ensures)
     (λ c κs. c .before .before .before .before .before .before .pre)

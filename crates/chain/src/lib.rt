@@ -303,7 +303,8 @@ pub fn open(
     picture: &[u8],
     strip: &[u8],
 ) -> Chain
-    ensures { λ r. ⌜ Opened width height (now (chain .entry)) (now («data» .entry)) (now (picture .entry)) (now (strip .entry)) r ⌝ }
+    ensures { λ r. ⌜ Opened width height (now (chain .entry)) (now («data» .entry)) (now (picture .entry))
+        (now (strip .entry)) r ⌝ }
 {
     let read = read_chain(width, height, chain, data);
     if read.refusal != 0 {

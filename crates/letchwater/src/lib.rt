@@ -1,4 +1,5 @@
-// The calls for the Rust host: numbers and byte slices. Each contract gives the number and every byte of every lent buffer, on every input.
+// The calls for the Rust host: numbers and byte slices. Each contract gives the number and every byte of every lent
+// buffer, on every input.
 use color_map::adjust_color_map;
 use color_map::unadjust_color_map;
 use format::Pixel;
@@ -7,8 +8,9 @@ use retouch::retouch::retouch;
 use store::store::store;
 ghost use mathlib.Core.Path.{_≡_};
 ghost use Rattle.format.specs.Pixel.{pixel};
-ghost use Rattle.format.specs.Calls.{rebuildAnswer, rebuildImage, storeAnswer, storeStrip, retouchAnswer, retouchPicture, retouchStrip};
-ghost use Rattle.format.specs.ColorMap.{refused as refusedLength, colorMapAnswer, adjustColorMap, unadjustColorMap};
+ghost use Rattle.format.specs.Calls.{rebuildAnswer, rebuildImage, storeAnswer, storeStrip};
+ghost use Rattle.format.specs.Calls.{retouchAnswer, retouchPicture, retouchStrip};
+ghost use Rattle.format.specs.ColorMap.{colorMapAnswer, adjustColorMap, unadjustColorMap};
 
 // Rebuilds a picture in the buffer whose front holds its strip.
 #[no_mangle]
@@ -20,7 +22,8 @@ pub extern "C" fn letchwater_rebuild(
     image: &mut [u8],
 ) -> u32
     ensures { λ r. ⌜ r ≡ rebuildAnswer width height (now (chain .entry)) (now («data» .entry)) (now (image .entry)) ⌝ }
-    ensures { λ r. ⌜ now (image .exit) ≡ rebuildImage width height (now (chain .entry)) (now («data» .entry)) (now (image .entry)) ⌝ }
+    ensures { λ r. ⌜ now (image .exit) ≡ rebuildImage width height (now (chain .entry)) (now («data» .entry))
+        (now (image .entry)) ⌝ }
 {
     rebuild(width as usize, height as usize, chain, data, image)
 }
@@ -35,8 +38,10 @@ pub extern "C" fn letchwater_store(
     picture: &[u8],
     strip: &mut [u8],
 ) -> u32
-    ensures { λ r. ⌜ r ≡ storeAnswer width height (now (chain .entry)) (now («data» .entry)) (now (picture .entry)) (now (strip .entry)) ⌝ }
-    ensures { λ r. ⌜ now (strip .exit) ≡ storeStrip width height (now (chain .entry)) (now («data» .entry)) (now (picture .entry)) (now (strip .entry)) ⌝ }
+    ensures { λ r. ⌜ r ≡ storeAnswer width height (now (chain .entry)) (now («data» .entry)) (now (picture .entry))
+        (now (strip .entry)) ⌝ }
+    ensures { λ r. ⌜ now (strip .exit) ≡ storeStrip width height (now (chain .entry)) (now («data» .entry))
+        (now (picture .entry)) (now (strip .entry)) ⌝ }
 {
     store(width as usize, height as usize, chain, data, picture, strip)
 }
@@ -57,9 +62,12 @@ pub extern "C" fn letchwater_retouch(
     b: u8,
     a: u8,
 ) -> u32
-    ensures { λ n. ⌜ n ≡ retouchAnswer width height (now (chain .entry)) (now («data» .entry)) (now (picture .entry)) (now (strip .entry)) x y (pixel r g b a) ⌝ }
-    ensures { λ n. ⌜ now (picture .exit) ≡ retouchPicture width height (now (chain .entry)) (now («data» .entry)) (now (picture .entry)) (now (strip .entry)) x y (pixel r g b a) ⌝ }
-    ensures { λ n. ⌜ now (strip .exit) ≡ retouchStrip width height (now (chain .entry)) (now («data» .entry)) (now (picture .entry)) (now (strip .entry)) x y (pixel r g b a) ⌝ }
+    ensures { λ n. ⌜ n ≡ retouchAnswer width height (now (chain .entry)) (now («data» .entry))
+        (now (picture .entry)) (now (strip .entry)) x y (pixel r g b a) ⌝ }
+    ensures { λ n. ⌜ now (picture .exit) ≡ retouchPicture width height (now (chain .entry)) (now («data» .entry))
+        (now (picture .entry)) (now (strip .entry)) x y (pixel r g b a) ⌝ }
+    ensures { λ n. ⌜ now (strip .exit) ≡ retouchStrip width height (now (chain .entry)) (now («data» .entry))
+        (now (picture .entry)) (now (strip .entry)) x y (pixel r g b a) ⌝ }
 {
     let color = Pixel {
         red: r,
@@ -80,39 +88,20 @@ pub extern "C" fn letchwater_retouch(
     )
 }
 
-// Refusal 10: the length of a color map is 0, over 1024 or not a multiple of 4.
-fn refused(length: usize) -> bool
-    ensures { λ r. ⌜ r ≡ refusedLength length ⌝ }
-{
-    if length == 0 {
-        return true;
-    }
-    if 1024 < length {
-        return true;
-    }
-    length % 4 != 0
-}
-
+// Turns a color map as the file has it into finished entries.
 #[no_mangle]
 pub extern "C" fn letchwater_adjust_color_map(color_map: &mut [u8]) -> u32
     ensures { λ r. ⌜ r ≡ colorMapAnswer (now («color_map» .entry)) ⌝ }
     ensures { λ r. ⌜ now («color_map» .exit) ≡ adjustColorMap (now («color_map» .entry)) ⌝ }
 {
-    if refused(color_map.len()) {
-        return 10;
-    }
-    adjust_color_map(color_map);
-    0
+    adjust_color_map(color_map)
 }
 
+// Undoes that.
 #[no_mangle]
 pub extern "C" fn letchwater_unadjust_color_map(color_map: &mut [u8]) -> u32
     ensures { λ r. ⌜ r ≡ colorMapAnswer (now («color_map» .entry)) ⌝ }
     ensures { λ r. ⌜ now («color_map» .exit) ≡ unadjustColorMap (now («color_map» .entry)) ⌝ }
 {
-    if refused(color_map.len()) {
-        return 10;
-    }
-    unadjust_color_map(color_map);
-    0
+    unadjust_color_map(color_map)
 }

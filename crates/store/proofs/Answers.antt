@@ -1,81 +1,56 @@
--- The number and the bytes of `store` at each of its returns, and the records of a valid chain as values.
-use mathlib.Core.Bool.{Bool, true, false, _&&_}
+-- The number and the bytes of `store` at each of its returns, from a chain's value back to its bytes.
+use mathlib.Core.Bool.{Bool, true, false}
 use mathlib.Core.List.{List}
 use mathlib.Core.Path.{_≡_, refl, sym, ap, _∙_}
-use Prim.Native.Nat.{ℕ, _*_, _<_, _≤_}
+use Prim.Native.Nat.{ℕ}
 use native.Mathlib.Omega.{arith}
-use borrow.Author.Tests.{le-leb, lt-leb}
-use lib.ListN.{length}
-use Rattle.format.specs.Picture.{pixels}
-use Rattle.format.specs.Chain.{widthAt, stepAt, count}
-use Rattle.format.specs.Refusals.{chainRefusal}
-use Rattle.format.specs.Stages.{stored, accepts}
-use Rattle.format.specs.Calls.{holds, records, storeAnswer, storeStrip}
+use Rattle.format.specs.Choice.{if_then_else_}
+use Rattle.format.specs.Picture.{pixels, written}
+use Rattle.format.specs.Chain.{stepAt, count}
+use Rattle.format.specs.Refusals.{_before_, _unless_}
+use Rattle.format.specs.Calls.{records, stripOf, storable, storeAnswer, storeStrip}
 use Rattle.format.proofs.Valid.{before-none, before-some}
 use Rattle.format.proofs.Steps.{stored-steps, accepts-steps}
-use Rattle.format.proofs.Calls.{store-accepts, storeStrip-accepted, storeStrip-refused}
+use Rattle.format.proofs.Calls.{storeStrip-accepted, storeStrip-refused}
 use Rattle.chain.specs.declared.Chain.{Chain}
-use Rattle.chain.specs.Reading.{ChainOf}
-use Rattle.chain.specs.Ready.{stepsIn}
+use Rattle.chain.specs.Valid.{stepsOf, storedBy, acceptsBy}
+use Rattle.chain.specs.Reading.{ChainOf, Opened}
 use Rattle.store.specs.Stage.{Stored}
 
--- answers
-
-and-false : (a b : Bool) → b ≡ false → (a && b) ≡ false
-and-false true b e = e
-and-false false b e = refl
-
-module _ (w h : ℕ) (cs ds picture strip : List ℕ) where
+module _ (w h : ℕ) (cs ds picture strip : List ℕ) (c : Chain) (o : Opened w h cs ds picture strip c) where
   abbrev Answered : ℕ → List ℕ → Type 0
   Answered r ys = (r ≡ storeAnswer w h cs ds picture strip) × (ys ≡ storeStrip w h cs ds picture strip)
 
-  refused : (r : ℕ) → r ≡ storeAnswer w h cs ds picture strip → (r ≡ 0 → ⊥) → Answered r strip
-  refused r e d = (e, sym (storeStrip-refused w h cs ds picture strip (λ z. d (e ∙ z))))
+  abbrev accepting : Bool
+  accepting = storable w h cs ds (pixels picture)
 
-  -- refusals 1 to 7
-  pub refused-chain : (r : ℕ) → r ≡ chainRefusal w h cs (length ds) → (r ≡ 0 → ⊥) → Answered r strip
+  whole : storeAnswer w h cs ds picture strip ≡ (c .refusal before (21 unless accepting))
   unfolding storeAnswer
-  refused-chain r e d = refused r (e ∙ sym (before-some (chainRefusal w h cs (length ds)) _ (λ z. d (e ∙ z)))) d
+  whole = ap (λ (n : ℕ). n before (21 unless accepting)) (sym (o .refusal))
 
-  -- 8
-  short : chainRefusal w h cs (length ds) ≡ 0 → (holds picture (h * w) && holds strip (records w h cs)) ≡ false → Answered 8 strip
-  unfolding storeAnswer
-  short e q = refused 8 (sym (before-none (chainRefusal w h cs (length ds)) _ e ∙ rw q refl)) (λ z. omega arith)
+  -- refusals 1 to 8
+  pub refused : (c .refusal ≡ 0 → ⊥) → Answered (c .refusal) strip
+  refused d =
+      let e = sym (whole ∙ before-some (c .refusal) _ d) in
+      (e, sym (storeStrip-refused w h cs ds picture strip (λ z. d (e ∙ z))))
 
-  pub refused-picture : chainRefusal w h cs (length ds) ≡ 0 → length picture < 4 * (h * w) → Answered 8 strip
-  refused-picture e l = short e (rw (lt-leb (4 * (h * w)) (length picture) l) refl)
+  -- 21, or the strip
+  module _ (e : c .refusal ≡ 0) (r : ℕ) (ys : List ℕ) (s : Stored c ds picture strip r ys) where
+    of : ChainOf w h cs c
+    of = o .of e
 
-  module _ (c : Chain) (valid : chainRefusal w h cs (length ds) ≡ 0) (of : ChainOf w cs c) where
-    pub refused-strip : length strip < 4 * (h * c .width) → Answered 8 strip
-    refused-strip l = short valid (and-false (holds picture (h * w)) (holds strip (records w h cs)) (lt-leb (4 * (h * widthAt cs w (count cs))) (length strip) (let e = of .width in rw (← e) l)))
+    same : acceptsBy c ds (c .count) (pixels picture) ≡ accepting
+    same = rw (of .count, of .height) (accepts-steps (stepsOf c) (stepAt cs w) h ds (pixels picture) (count cs) (of .steps .at))
 
-    refusal : 4 * (h * w) ≤ length picture → 4 * (h * c .width) ≤ length strip → accepts (stepAt cs w) h ds (count cs) (pixels picture) ≡ false → storeAnswer w h cs ds picture strip ≡ 21
-    unfolding storeAnswer
-    refusal room fits q =
-        before-none (chainRefusal w h cs (length ds)) _ valid
-        ∙ rw (le-leb (4 * (h * w)) (length picture) room, le-leb (4 * (h * widthAt cs w (count cs))) (length strip) (rw (← of .width) fits), q) refl
+    made : storedBy c ds (c .count) (pixels picture) ≡ stripOf w h cs ds (pixels picture)
+    made = rw (of .count) (stored-steps (stepsOf c) (stepAt cs w) h ds (pixels picture) (count cs) (of .steps .at))
 
-    -- 21, or the strip
-    pub answered : (r : ℕ) (ys : List ℕ) → 4 * (h * w) ≤ length picture → 4 * (h * c .width) ≤ length strip → Stored (accepts (stepsIn (c .steps)) h ds (c .count) (pixels picture)) (h * c .width) (stored (stepsIn (c .steps)) ds (c .count) (pixels picture)) strip r ys → Answered r ys
-    answered r ys room fits s = go (accepts (stepAt cs w) h ds (count cs) (pixels picture)) refl
+    answer : storeAnswer w h cs ds picture strip ≡ (21 unless accepting)
+    answer = whole ∙ before-none (c .refusal) _ e
+
+    pub answered : Answered r ys
+    answered = (s .answer ∙ rw same (sym answer), s .bytes ∙ rw (same, made, of .height, of .strip) (bytes accepting refl))
       where
-        steps-are : (k : ℕ) → k < count cs → stepsIn (c .steps) k ≡ stepAt cs w k
-        steps-are k l = of .steps .at k l
-
-        same : accepts (stepsIn (c .steps)) h ds (c .count) (pixels picture) ≡ accepts (stepAt cs w) h ds (count cs) (pixels picture)
-        same = ap (λ (k : ℕ). accepts (stepsIn (c .steps)) h ds k (pixels picture)) (of .count) ∙ accepts-steps (stepsIn (c .steps)) (stepAt cs w) h ds (pixels picture) (count cs) steps-are
-
-        made : stored (stepsIn (c .steps)) ds (c .count) (pixels picture) ≡ stored (stepAt cs w) ds (count cs) (pixels picture)
-        made = ap (λ (k : ℕ). stored (stepsIn (c .steps)) ds k (pixels picture)) (of .count) ∙ stored-steps (stepsIn (c .steps)) (stepAt cs w) h ds (pixels picture) (count cs) steps-are
-
-        wide : h * c .width ≡ records w h cs
-        wide = ap (λ (x : ℕ). h * x) (of .width)
-
-        go : (b : Bool) → accepts (stepAt cs w) h ds (count cs) (pixels picture) ≡ b → Answered r ys
-        go true q =
-            let a = store-accepts w h cs ds picture strip valid room (rw (← wide) fits) q in
-            (s .answer ∙ rw (same, q) (sym a), s .bytes ∙ rw (same, q, made, wide) (sym (storeStrip-accepted w h cs ds picture strip a)))
-        go false q =
-            let e : r ≡ 21 = s .answer ∙ rw (same, q) refl in
-            let z : ys ≡ strip = s .bytes ∙ rw (same, q) refl in
-            rw (z) (refused r (e ∙ sym (refusal room fits q)) (λ n. let k = sym e ∙ n in omega arith))
+        bytes : (b : Bool) → accepting ≡ b → (if b then written (records w h cs) (stripOf w h cs ds (pixels picture)) strip else strip) ≡ storeStrip w h cs ds picture strip
+        bytes true q = sym (storeStrip-accepted w h cs ds picture strip (answer ∙ rw q refl))
+        bytes false q = sym (storeStrip-refused w h cs ds picture strip (λ z. let n : 21 ≡ 0 = sym (answer ∙ rw q refl) ∙ z in omega arith))

@@ -7,9 +7,8 @@ use native.Mathlib.Nat.{add-mul, one-mul}
 use native.Mathlib.Decide.{decLt}
 use native.Mathlib.Omega.{arith}
 use lib.ListN.{length, drop, length-drop}
-use Rattle.format.specs.declared.Step.{Step}
 use Rattle.format.specs.Picture.{Picture, pixels, written}
-use Rattle.format.specs.ColorTable.{hasEntry, accepted}
+use Rattle.format.specs.ColorTable.{hasEntry, haveEntries}
 use Rattle.format.specs.Stages.{stored}
 use Rattle.format.proofs.Choice.{every-at}
 use Rattle.format.proofs.Written.{pixels-written, written-self}
@@ -19,7 +18,8 @@ use Rattle.pixel.proofs.Part.{back, part}
 use Rattle.pixel.proofs.Held.{held-part, held-back}
 use Rattle.pixel.proofs.Given.{given-written}
 use Rattle.store.specs.Scratch.{Scratch}
-use Rattle.chain.specs.Ready.{widthAfter}
+use Rattle.chain.specs.declared.Chain.{Chain}
+use Rattle.store.specs.Stage.{RowOf}
 use Rattle.store.proofs.Lent.{back-length, lent-length}
 use Rattle.store.proofs.Packed.{every-all, row-accepted}
 
@@ -28,10 +28,10 @@ pub scratch-kept : (row rows row′ rows′ : List ℕ) → Scratch row rows →
 scratch-kept row rows row′ rows′ s p q = record { one = p ∙ s .one; two = q ∙ s .two }
 
 -- row y of the picture, copied to the front of xs
-pub first-row : (steps : ℕ → Step) (ds : List ℕ) (w y : ℕ) (bs xs ys : List ℕ) → ys ≡ written w (pixels (part (y * w) w bs)) xs → 4 * (y * w) + 4 * w ≤ length bs
-    → HoldsRow (stored steps ds 0 (pixels bs)) y (widthAfter steps w 0) ys
+pub first-row : (c : Chain) (ds : List ℕ) (y : ℕ) (bs xs ys : List ℕ) → ys ≡ written (c .width .0) (pixels (part (y * c .width .0) (c .width .0) bs)) xs
+    → 4 * (y * c .width .0) + 4 * c .width .0 ≤ length bs → RowOf c ds 0 (pixels bs) y ys
 unfolding stored
-first-row steps ds w y bs xs ys e l x u = ap (λ (zs : List ℕ). pixels zs x) e ∙ pixels-written w (pixels (part (y * w) w bs)) xs x u ∙ held-part y w bs l x u
+first-row c ds y bs xs ys e l x u = let w = c .width .0 in ap (λ (zs : List ℕ). pixels zs x) e ∙ pixels-written w (pixels (part (y * w) w bs)) xs x u ∙ held-part y w bs l x u
 
 -- a row copied to its place in the strip
 pub row-stored : (g : Picture) (y w : ℕ) (row strip z : List ℕ) → z ≡ written w (pixels row) (part (y * w) w strip) → HoldsRow g y w row → 4 * (y * w) + 4 * w ≤ length strip
@@ -71,10 +71,10 @@ part-room y w strip l = let e = lent-length (4 * (y * w)) (4 * (y * w) + 4 * w) 
 
 -- acceptance, row by row
 
-pub accepted-none : (size w : ℕ) (e f : Picture) → accepted size e (0 * w) f ≡ true
+pub accepted-none : (size w : ℕ) (e f : Picture) → haveEntries size e (0 * w) f ≡ true
 accepted-none size w e f = let z : 0 * w ≡ 0 = omega arith in rw z refl
 
-pub accepted-more : (size w y : ℕ) (e f : Picture) (row : List ℕ) → accepted size e (y * w) f ≡ true → HoldsRow f y w row → accepted size e w (pixels row) ≡ true → accepted size e ((y + 1) * w) f ≡ true
+pub accepted-more : (size w y : ℕ) (e f : Picture) (row : List ℕ) → haveEntries size e (y * w) f ≡ true → HoldsRow f y w row → haveEntries size e w (pixels row) ≡ true → haveEntries size e ((y + 1) * w) f ≡ true
 accepted-more size w y e f row a h t = every-all ((y + 1) * w) (λ p. hasEntry size e (f p)) at
   where
     rowwise : (x : ℕ) → x < w → hasEntry size e (f (y * w + x)) ≡ true
@@ -90,9 +90,9 @@ accepted-more size w y e f row a h t = every-all ((y + 1) * w) (λ p. hasEntry s
             let i : y * w + (p - y * w) ≡ p = omega arith in
             subst (λ (r : ℕ). hasEntry size e (f r) ≡ true) i (rowwise (p - y * w) (omega arith))
 
-pub accepted-not : (size w h y : ℕ) (e f : Picture) (row : List ℕ) → HoldsRow f y w row → accepted size e w (pixels row) ≡ false → y < h → false ≡ accepted size e (h * w) f
-accepted-not size w h y e f row r t l = go (accepted size e (h * w) f) refl
+pub accepted-not : (size w h y : ℕ) (e f : Picture) (row : List ℕ) → HoldsRow f y w row → haveEntries size e w (pixels row) ≡ false → y < h → false ≡ haveEntries size e (h * w) f
+accepted-not size w h y e f row r t l = go (haveEntries size e (h * w) f) refl
   where
-    go : (a : Bool) → accepted size e (h * w) f ≡ a → false ≡ a
+    go : (a : Bool) → haveEntries size e (h * w) f ≡ a → false ≡ a
     go false z = refl
     go true z = sym t ∙ row-accepted w h size y e f row z r l

@@ -8,13 +8,20 @@ use native.Mathlib.Omega.{arith}
 use borrow.Author.Tests.{ltb-true}
 use lib.Arith.{digits-lt, digits-div, digits-mod}
 use lib.Dec.{ltb}
+use lib.ListN.{length, drop, length-drop}
+use lib.Seq.{length-take-le}
+use Rattle.format.specs.declared.Step.{Step}
 use Rattle.format.specs.Choice.{every}
 use Rattle.format.specs.Pixel.{pixel}
 use Rattle.format.specs.Picture.{Picture, pixels}
-use Rattle.format.specs.ColorTable.{perPixel, range, packedWidth, indexOf, hasEntry, accepted, digits, indexAt, packed}
+use Rattle.format.specs.ColorTable.{perPixel, range, packedWidth, indexOf, hasEntry, haveEntries, digits, indexAt, packed}
+use Rattle.format.specs.Sizes.{Sized}
+use Rattle.format.specs.ValidStep.{ValidStep}
 use Rattle.format.proofs.Choice.{if-same, every-at, and-both}
 use Rattle.format.proofs.ColorTable.{perPixel-pos}
 use Rattle.color_table.proofs.Rows.{packed-fewer}
+use Rattle.format.specs.Stages.{dataOf}
+use Rattle.store.specs.Stage.{TableStep}
 use Rattle.pixel.specs.Held.{HoldsRow}
 
 digits-same : (u n : ℕ) (g h : ℕ → ℕ) → ((k : ℕ) → g k ≡ h k) → digits u n g ≡ digits u n h
@@ -37,10 +44,29 @@ every-all zero t h = refl
 every-all (suc n) t h = and-both (t n) (every n t) (h n (omega arith)) (every-all n t (λ q l. h q (omega arith)))
 
 -- a row of an accepted picture
-pub row-accepted : (w h size y : ℕ) (e f : Picture) (xs : List ℕ) → accepted size e (h * w) f ≡ true → HoldsRow f y w xs → y < h → accepted size e w (pixels xs) ≡ true
+pub row-accepted : (w h size y : ℕ) (e f : Picture) (xs : List ℕ) → haveEntries size e (h * w) f ≡ true → HoldsRow f y w xs → y < h → haveEntries size e w (pixels xs) ≡ true
 row-accepted w h size y e f xs a r l =
     every-all w (λ q. hasEntry size e (pixels xs q)) (λ x u. rw (r x u) (every-at (h * w) (λ q. hasEntry size e (f q)) (y * w + x) (digits-lt l u) a))
 
 -- a row has no more records than pixels
 pub packed-few : (size w : ℕ) → 1 ≤ w → w ≤ 16384 → packedWidth size w ≤ 16384
 packed-few size w some l = let f = packed-fewer w (perPixel size) some (perPixel-pos size) in omega arith
+
+-- a valid record that is a table
+pub table-step : (s : Step) (h : ℕ) (ds : List ℕ) → Sized (s .width) h → ValidStep s h (length ds) → s .kind ≡ 3 → TableStep s ds
+table-step s h ds z v k = record {
+  wide = z .wide;
+  narrow = z .narrow;
+  inside = v .inside;
+  some = v .table k .some;
+  most = v .table k .most;
+  long = v .table k .long;
+}
+
+-- its entries are in its part of the data
+pub entries-there : (s : Step) (ds : List ℕ) → TableStep s ds → (part : List ℕ) → part ≡ dataOf s ds → 4 * s .size ≤ length part
+entries-there s ds t part e =
+    let i = t .inside in
+    let n = t .long in
+    let l = length-take-le (s .length) (drop (s .offset) ds) (rw (length-drop (s .offset) ds) (omega arith)) in
+    rw e (omega arith)

@@ -12,9 +12,10 @@ use Rattle.format.specs.Stages.{stored, takes, accepts}
 use Rattle.format.proofs.Choice.{and-left, and-right}
 use Rattle.format.proofs.ByKind.{takes-table, takes-other}
 use Rattle.pixel.specs.Held.{HoldsRow}
-use Rattle.chain.specs.Ready.{Ready, widthAfter}
-use Rattle.store.specs.Stage.{Takes, Advanced, Above, HintsFor}
-use Rattle.chain.proofs.Ready.{step-sized}
+use Rattle.chain.specs.declared.Chain.{Chain}
+use Rattle.chain.specs.Valid.{Valid, stepsOf, widthAfter, storedBy}
+use Rattle.store.specs.Stage.{Takes, Advanced, Above, HintsFor, RowOf, Accepts}
+use Rattle.chain.proofs.Valid.{step-sized}
 use Rattle.store.proofs.Packed.{row-accepted}
 
 -- acceptance
@@ -54,67 +55,68 @@ module _ (steps : ℕ → Step) (h : ℕ) (ds : List ℕ) (f : Picture) where
       right true = refl
       right false = refl
 
--- the records at hand
+-- the first m records of a valid chain
 
-module _ (steps : ℕ → Step) (count w h n : ℕ) (ready : Ready steps count w h n) where
+module _ (c : Chain) (ds : List ℕ) (v : Valid c ds) (m : ℕ) (most : m ≤ c .count) where
   -- what record k asks of row y
-  pub takes-row : (ds : List ℕ) (f : Picture) (hints row : List ℕ) (k y : ℕ) → HintsFor steps count ds hints → accepts steps h ds count f ≡ true → HoldsRow (stored steps ds k f) y (widthAfter steps w k) row
-      → k < count → y < h → Takes (steps k) ds row hints
-  takes-row ds f hints row k y hs a r l u = record {
-    found = hs .found k l;
+  pub takes-row : (f : Picture) (hints row : List ℕ) (k y : ℕ) → HintsFor c ds hints → Accepts c ds m f → RowOf c ds k f y row → k < m → y < c .height → Takes (stepsOf c k) ds row hints
+  takes-row f hints row k y hs a r l u = record {
+    found = hs .found k (omega arith);
     taken = λ e.
-        row-accepted (steps k .width) h (steps k .size) y _ (stored steps ds k f) row
-        (sym (takes-table (steps k) h ds (stored steps ds k f) e) ∙ accepts-at steps h ds f count k l a) (rw (ready .width k l) r) u;
+        row-accepted (stepsOf c k .width) (c .height) (stepsOf c k .size) y _ (storedBy c ds k f) row
+        (sym (takes-table (stepsOf c k) (c .height) ds (storedBy c ds k f) e) ∙ accepts-at (stepsOf c) (c .height) ds f m k l a) (rw (v .width k (omega arith)) r) u;
   }
 
-  module _ (ds : List ℕ) (f : Picture) (k y : ℕ) (l : k < count) (row rows row′ rows′ : List ℕ) (held : HoldsRow (stored steps ds k f) y (widthAfter steps w k) row)
-      (above : Above steps ds f count k y rows) (adv : Advanced (steps k) ds y row rows row′ rows′) where
-    here : HoldsRow (stored steps ds k f) y (steps k .width) row
-    here = rw (ready .width k l) held
+  module _ (f : Picture) (k y : ℕ) (l : k < m) (row rows row′ rows′ : List ℕ) (held : RowOf c ds k f y row)
+      (above : Above c ds f m k y rows) (adv : Advanced (stepsOf c k) ds y row rows row′ rows′) where
+    here : HoldsRow (storedBy c ds k f) y (stepsOf c k .width) row
+    here = rw (v .width k (omega arith)) held
 
-    pub row-next : HoldsRow (stored steps ds (suc k) f) y (widthAfter steps w (suc k)) row′
+    pub row-next : RowOf c ds (suc k) f y row′
     unfolding stored
-    row-next = adv .made (stored steps ds k f) here (λ e u. above .wait k (le-refl k) l e u)
+    row-next = adv .made (storedBy c ds k f) here (λ e u. above .wait k (le-refl k) l e u)
 
     -- another record's row, where record k is no predictor
-    other : (j z : ℕ) → j < count → (steps k .kind ≡ 0 → ⊥) → HoldsRow (stored steps ds j f) z (steps j .width) rows → HoldsRow (stored steps ds j f) z (steps j .width) rows′
-    other j z u d r x i = adv .kept d x (let b = step-sized steps count w h n ready j u .narrow in omega arith) ∙ r x i
+    other : (j z : ℕ) → j < m → (stepsOf c k .kind ≡ 0 → ⊥) → HoldsRow (storedBy c ds j f) z (stepsOf c j .width) rows → HoldsRow (storedBy c ds j f) z (stepsOf c j .width) rows′
+    other j z u d r x i = adv .kept d x (let b = step-sized c ds v j (omega arith) .narrow in omega arith) ∙ r x i
 
     -- two predictors
-    twice : (j : ℕ) → j < count → (j ≡ k → ⊥) → steps j .kind ≡ 0 → steps k .kind ≡ 0 → ⊥
+    twice : (j : ℕ) → j < m → (j ≡ k → ⊥) → stepsOf c j .kind ≡ 0 → stepsOf c k .kind ≡ 0 → ⊥
     twice j u d e q = go (ℕ-discrete (j - k) 0)
       where
         go : Dec (j - k ≡ 0) → ⊥
-        go (yes z) = ready .once j k (omega arith) l (e ∙ sym q)
-        go (no z) = ready .once k j (omega arith) u (q ∙ sym e)
+        go (yes z) = v .once j k (omega arith) (omega arith) (e ∙ sym q)
+        go (no z) = v .once k j (omega arith) (omega arith) (q ∙ sym e)
 
-    pub above-next : Above steps ds f count (suc k) y rows′
-    above-next = record { done = λ j u e. done j u e (ℕ-discrete j k) (ℕ-discrete (steps k .kind) 0); wait = λ j u v e p. wait j u v e p (ℕ-discrete (steps k .kind) 0) }
+    pub above-next : Above c ds f m (suc k) y rows′
+    above-next = record { done = λ j u e. done j u e (ℕ-discrete j k) (ℕ-discrete (stepsOf c k .kind) 0); wait = λ j u i e p. wait j u i e p (ℕ-discrete (stepsOf c k .kind) 0) }
       where
-        done : (j : ℕ) → j < suc k → steps j .kind ≡ 0 → Dec (j ≡ k) → Dec (steps k .kind ≡ 0) → HoldsRow (stored steps ds j f) y (steps j .width) rows′
-        done j u e (yes p) d = subst (λ (i : ℕ). HoldsRow (stored steps ds i f) y (steps i .width) rows′) (sym p) (adv .left (stored steps ds k f) here (subst (λ (i : ℕ). steps i .kind ≡ 0) p e))
+        done : (j : ℕ) → j < suc k → stepsOf c j .kind ≡ 0 → Dec (j ≡ k) → Dec (stepsOf c k .kind ≡ 0) → HoldsRow (storedBy c ds j f) y (stepsOf c j .width) rows′
+        done j u e (yes p) d =
+            subst (λ (i : ℕ). HoldsRow (storedBy c ds i f) y (stepsOf c i .width) rows′) (sym p)
+            (adv .left (storedBy c ds k f) here (subst (λ (i : ℕ). stepsOf c i .kind ≡ 0) p e))
         done j u e (no p) (yes q) = absurd (twice j (omega arith) p e q)
         done j u e (no p) (no q) = other j y (omega arith) q (above .done j (omega arith) e)
 
-        wait : (j : ℕ) → suc k ≤ j → j < count → steps j .kind ≡ 0 → 1 ≤ y → Dec (steps k .kind ≡ 0) → HoldsRow (stored steps ds j f) (y - 1) (steps j .width) rows′
-        wait j u v e p (yes q) = absurd (twice j v (λ z. omega arith) e q)
-        wait j u v e p (no q) = other j (y - 1) v q (above .wait j (omega arith) v e p)
+        wait : (j : ℕ) → suc k ≤ j → j < m → stepsOf c j .kind ≡ 0 → 1 ≤ y → Dec (stepsOf c k .kind ≡ 0) → HoldsRow (storedBy c ds j f) (y - 1) (stepsOf c j .width) rows′
+        wait j u i e p (yes q) = absurd (twice j i (λ z. omega arith) e q)
+        wait j u i e p (no q) = other j (y - 1) i q (above .wait j (omega arith) i e p)
 
 -- rows
 
-module _ (steps : ℕ → Step) (ds : List ℕ) (f : Picture) (count : ℕ) where
+module _ (c : Chain) (ds : List ℕ) (f : Picture) (m : ℕ) where
   -- before the first row there is none above
-  pub above-first : (rows : List ℕ) → Above steps ds f count 0 0 rows
+  pub above-first : (rows : List ℕ) → Above c ds f m 0 0 rows
   above-first rows = record { done = λ j l e. absurd (no l); wait = λ j u l e p. absurd (no p) }
     where
       no : {j : ℕ} → j < 0 → ⊥
       no l = omega arith
 
   -- the row that was made is above the next
-  pub above-row : (y : ℕ) (rows : List ℕ) → Above steps ds f count count y rows → Above steps ds f count 0 (y + 1) rows
+  pub above-row : (y : ℕ) (rows : List ℕ) → Above c ds f m m y rows → Above c ds f m 0 (y + 1) rows
   above-row y rows a = record {
     done = λ j l e. absurd (no l);
-    wait = λ j u l e p. let z : y + 1 - 1 ≡ y = omega arith in subst (λ (i : ℕ). HoldsRow (stored steps ds j f) i (steps j .width) rows) (sym z) (a .done j l e);
+    wait = λ j u l e p. let z : y + 1 - 1 ≡ y = omega arith in subst (λ (i : ℕ). HoldsRow (storedBy c ds j f) i (stepsOf c j .width) rows) (sym z) (a .done j l e);
   }
     where
       no : {j : ℕ} → j < 0 → ⊥

@@ -26,6 +26,3 @@ none-more steps t h d = record { at = λ j l e. go j l e (ℕ-discrete j t) }
 
 pub not-both : {A : Type 0} → false ≡ true → A
 not-both e = let n : _≡_ {A = ℕ} 0 1 = ap (λ (b : Bool). if b then 1 else 0) e in absurd (omega arith)
-
-pub at-zero : (steps : ℕ → Step) (t : ℕ) → steps t .kind ≡ 3 → t ≡ 0 → steps 0 .kind ≡ 3
-at-zero steps t k e = subst (λ (i : ℕ). steps i .kind ≡ 3) e k

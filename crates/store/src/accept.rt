@@ -1,25 +1,30 @@
-// Whether storing accepts a picture: each pixel that reaches the table has an entry. No byte of the strip is written here.
+// Whether storing accepts a picture: each pixel that reaches the table has an entry. No byte of the strip is written
+// here.
 use crate::row::make_row;
+use chain::Chain;
+use chain::part_of;
 use color_table::accept::accept;
 use color_table::find::hints_of;
 use format::Step;
 ghost use mathlib.Core.Path.{_≡_};
-ghost use Prim.Native.Nat.{ℕ, _+_, _<_, _≤_};
+ghost use Prim.Native.Nat.{_<_, _≤_};
 ghost use lib.ListN.{length};
 ghost use Rattle.format.specs.Picture.{pixels};
 ghost use Rattle.format.specs.Sizes.{Sized, Holds};
 ghost use Rattle.format.specs.ValidStep.{ValidStep};
-ghost use Rattle.format.specs.Stages.{partOf, stored, takes, accepts};
+ghost use Rattle.format.specs.Stages.{partOf, takes};
 ghost use Rattle.color_table.specs.Pack.{Hints};
+ghost use Rattle.chain.specs.Valid.{Valid, acceptsBy};
 ghost use Rattle.store.specs.Scratch.{Scratch};
-ghost use Rattle.chain.specs.Ready.{Ready, stepsIn};
-ghost use Rattle.store.specs.Stage.{HintsFor};
+ghost use Rattle.store.specs.Stage.{TableAt, HintsFor, Storing};
 
-// The number of the table's record; `count` where there is none.
-pub fn table_at(steps: [Step; 4], count: usize) -> usize
-    requires { ⌜ count ≤ 4 ⌝ }
-    ensures { λ r. ⌜ (r ≤ count) × (r < count → stepsIn steps r .kind ≡ 3) × ((j : ℕ) → j < r → stepsIn steps j .kind ≡ 3 → ⊥) ⌝ }
+// The number of the table's record; the number of records where there is none.
+pub fn table_at(chain: Chain) -> usize
+    requires { ⌜ chain .count ≤ 4 ⌝ }
+    ensures { λ r. ⌜ TableAt chain r ⌝ }
 {
+    let steps = chain.steps;
+    let count = chain.count;
     let mut t = 0;
     while t < count {
         let s = steps[t];
@@ -31,16 +36,15 @@ pub fn table_at(steps: [Step; 4], count: usize) -> usize
     count
 }
 
-// Hints for the entries of record t, which is a table where it is below `count`.
-pub fn hints_at(steps: [Step; 4], t: usize, count: usize, height: usize, data: &[u8]) -> [u8; 4096]
-    requires { ⌜ (count ≤ 4) × (t < count → (stepsIn steps t .kind ≡ 3) × ValidStep (stepsIn steps t) height (length (now «data»))) ⌝ }
-    ensures { λ r. ⌜ (t < count → Hints (stepsIn steps t .size) (partOf (stepsIn steps t) (now («data» .entry))) r) ⌝ }
+// Hints for the entries of record t.
+pub fn hints_at(chain: Chain, t: usize, data: &[u8]) -> [u8; 4096]
+    requires { ⌜ Valid chain (now «data») × TableAt chain t ⌝ }
+    ensures { λ r. ⌜ HintsFor chain (now («data» .entry)) r ⌝ }
 {
-    if t < count {
+    if t < chain.count {
+        let steps = chain.steps;
         let s = steps[t];
-        let from = s.offset;
-        let to = from + s.length;
-        return hints_of(&data[from..to], s.size);
+        return hints_of(part_of(data, s), s.size);
     }
     [0u8; 4096]
 }
@@ -51,34 +55,30 @@ pub fn accept_first(s: Step, height: usize, data: &[u8], picture: &[u8], hints: 
     requires { ⌜ Holds (s .width) height (now picture) × Hints (s .size) (partOf s (now «data»)) (now hints) ⌝ }
     ensures { λ r. ⌜ r ≡ takes s height (now («data» .entry)) (pixels (now (picture .entry))) ⌝ }
 {
-    let from = s.offset;
-    let to = from + s.length;
-    accept(picture, height * s.width, &data[from..to], s.size, hints)
+    accept(picture, height * s.width, part_of(data, s), s.size, hints)
 }
 
 // Whether each pixel of the stage before record t, which is a table, has an entry.
-pub fn accept_rows(
-    steps: [Step; 4],
+fn accept_rows(
+    chain: Chain,
     t: usize,
-    width: usize,
-    height: usize,
     data: &[u8],
     picture: &[u8],
     row: &mut [u8],
     rows: &mut [u8],
     hints: &[u8],
 ) -> bool
-    requires { ⌜ Ready (stepsIn steps) (t + 1) width height (length (now «data»)) × HintsFor (stepsIn steps) (t + 1) (now «data») (now hints) × Holds width height (now picture) ⌝ }
-    requires { ⌜ (stepsIn steps t .kind ≡ 3) × Scratch (now row) (now rows) ⌝ }
-    ensures { λ r. ⌜ r ≡ takes (stepsIn steps t) height (now («data» .entry)) (stored (stepsIn steps) (now («data» .entry)) t (pixels (now (picture .entry)))) ⌝ }
+    requires { ⌜ Storing chain (now «data») (now picture) (now hints) × Scratch (now row) (now rows) ⌝ }
+    requires { ⌜ TableAt chain t × (t < chain .count) ⌝ }
+    ensures { λ r. ⌜ r ≡ acceptsBy chain (now («data» .entry)) (chain .count) (pixels (now (picture .entry))) ⌝ }
 {
+    let steps = chain.steps;
     let s = steps[t];
-    let from = s.offset;
-    let to = from + s.length;
+    let entries = part_of(data, s);
     let mut y = 0;
-    while y < height {
-        make_row(steps, t, width, height, data, picture, y, row, rows, hints);
-        if !accept(row, s.width, &data[from..to], s.size, hints) {
+    while y < chain.height {
+        make_row(chain, t, data, picture, y, row, rows, hints);
+        if !accept(row, s.width, entries, s.size, hints) {
             return false;
         }
         y += 1;
@@ -86,29 +86,26 @@ pub fn accept_rows(
     true
 }
 
-// Whether storing accepts the picture, where t is the number of the table's record, or `count`.
+// Whether storing accepts the picture.
 pub fn accept_picture(
-    steps: [Step; 4],
+    chain: Chain,
     t: usize,
-    count: usize,
-    width: usize,
-    height: usize,
     data: &[u8],
     picture: &[u8],
     row: &mut [u8],
     rows: &mut [u8],
     hints: &[u8],
 ) -> bool
-    requires { ⌜ Ready (stepsIn steps) count width height (length (now «data»)) × HintsFor (stepsIn steps) count (now «data») (now hints) × Holds width height (now picture) ⌝ }
-    requires { ⌜ (t ≤ count) × (t < count → stepsIn steps t .kind ≡ 3) × ((j : ℕ) → j < t → stepsIn steps j .kind ≡ 3 → ⊥) ⌝ }
-    requires { ⌜ Scratch (now row) (now rows) ⌝ }
-    ensures { λ r. ⌜ r ≡ accepts (stepsIn steps) height (now («data» .entry)) count (pixels (now (picture .entry))) ⌝ }
+    requires { ⌜ Storing chain (now «data») (now picture) (now hints) × Scratch (now row) (now rows) ⌝ }
+    requires { ⌜ TableAt chain t ⌝ }
+    ensures { λ r. ⌜ r ≡ acceptsBy chain (now («data» .entry)) (chain .count) (pixels (now (picture .entry))) ⌝ }
 {
-    if t < count {
+    if t < chain.count {
         if t == 0 {
-            return accept_first(steps[0], height, data, picture, hints);
+            let steps = chain.steps;
+            return accept_first(steps[0], chain.height, data, picture, hints);
         }
-        return accept_rows(steps, t, width, height, data, picture, row, rows, hints);
+        return accept_rows(chain, t, data, picture, row, rows, hints);
     }
     true
 }

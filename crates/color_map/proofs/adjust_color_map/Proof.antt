@@ -1,33 +1,20 @@
--- `adjust_color_map` meets its contract: before each turn the bytes up to i are adjusted.
-use mathlib.Core.Path.{_≡_, refl}
-use Prim.Native.Nat.{_≤_, _-_}
-use native.Mathlib.Omega.{arith}
+-- `adjust_color_map` meets its contract: the code's test is the definition's refusal, which settles both equations.
+use mathlib.Core.Path.{refl, sym, _∙_}
 use borrow.Author.Needs.{needs}
-use lib.ListN.{length, length-set}
-use Rattle.pixel.specs.Cells.{byteCells, run}
-use Rattle.pixel.proofs.Cells.{run-none, run-more}
-use Rattle.color_map.proofs.Laws.{gains, adjusted-run}
+use Rattle.format.specs.ColorMap.{colorMapAnswer, adjustColorMap}
+use Rattle.format.proofs.ColorMap.{taken-some}
 use Rattle.color_map.proofs.adjust_color_map.Statement.{statement}
 use Rattle.color_map.proofs.adjust_color_map.Tie as tie
 
-abbrev Inv-loop : tie.InvT-loop
-Inv-loop xs₀ i₀ xs i = (4 ≤ i) × (i ≤ length xs₀) × (length xs ≡ length xs₀) × (xs ≡ run byteCells gains 4 (i - 4) xs₀)
-
-abbrev μ-loop : tie.MeasureT-loop
-μ-loop xs₀ i₀ xs i = length xs₀ - i
-
 pub adjust-color-map-spec : {M : Type 1} → statement M
+unfolding colorMapAnswer adjustColorMap
 adjust-color-map-spec =
     tie.close
     (tie.spec
-    Inv-loop
-    μ-loop
-    (λ c. (omega arith, omega arith, refl, run-none _ _ _ _))
-    (λ c κs. omega arith)
-    (λ c. omega arith)
-    (λ c. omega arith)
-    (λ c. omega arith)
-    (λ c. let l = c .before .before .before .loop in
-    (omega arith, omega arith, simp length-set (l .inv .2), run-more _ _ _ _ _ _ _ (l .inv .0) (l .inv .3) (c .byte-more .ensures)))
+    (λ c κs. search needs)
+    (λ c. rw (sym (c .before .refused .ensures) ∙ c .if1 .taken) (refl, refl))
+    (λ c κs. taken-some _ (sym (c .before .before .refused .ensures) ∙ c .before .if1 .left))
     (λ c. search needs)
-    (λ c. adjusted-run _ _ _ (c .before .loop .inv .3) (omega arith)))
+    (λ c.
+    rw (sym (c .before .before .before .before .before .refused .ensures) ∙ c .before .before .before .before .if1 .left)
+    (refl, c .before .before .adjust .ensures)))

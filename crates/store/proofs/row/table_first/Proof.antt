@@ -11,4 +11,4 @@ table-first-spec =
     (tie.spec
     (λ c e. not-both e)
     (λ c. omega arith)
-    (λ c e. (omega (arith, c .before .before .if1 .left), eqb-true _ _ e)))
+    (λ c e. (omega (arith, c .before .before .before .if1 .left), eqb-true _ _ e)))

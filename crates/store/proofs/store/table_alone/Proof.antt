@@ -11,4 +11,4 @@ table-alone-spec =
     (tie.spec
     (λ c e. not-both e)
     (λ c. omega arith)
-    (λ c e. (c .before .before .if1 .left, eqb-true _ _ e)))
+    (λ c e. record { one = c .before .before .before .if1 .left; kind = eqb-true _ _ e }))

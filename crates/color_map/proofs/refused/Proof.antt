@@ -1,7 +1,7 @@
 -- `refused` meets its contract: each test of the code is one of the definition's.
 use borrow.Author.Tests.{eq-eqb, ne-eqb, lt-ltb, le-ltb}
-use Rattle.letchwater.proofs.refused.Statement.{statement}
-use Rattle.letchwater.proofs.refused.Tie as tie
+use Rattle.color_map.proofs.refused.Statement.{statement}
+use Rattle.color_map.proofs.refused.Tie as tie
 
 pub refused-spec : {M : Type 1} → statement M
 refused-spec =

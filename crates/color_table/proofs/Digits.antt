@@ -10,6 +10,8 @@ use lib.Dec.{leb, lit<}
 use lib.ListN.{length}
 use Rattle.format.specs.Choice.{if_then_else_}
 use Rattle.format.specs.ColorTable.{perPixel, range, digits}
+use Rattle.pixel.specs.Stride.{Places}
+use Rattle.pixel.proofs.Places.{places-1, places-2, places-4, places-8}
 use Rattle.color_table.specs.Pack.{Row, Few}
 
 -- n indices to the base u go into a byte
@@ -21,7 +23,7 @@ pub record Base (size n u : ℕ) : Type 0 where
   pub few : n ≤ 8
   pub whole : u ^ n ≡ 256
   pub group : 16 / n * n ≡ 16
-  pub gap : (n ≡ 8 → ⊥) → (n ≤ 4) × (n ≡ 3 → ⊥)
+  pub places : Places n
   pub pairs : n ≡ 4 → u ≤ size + 1
   pub ones : (x : ℕ) → x < u → (x * (255 / (u - 1)) < 256) × (x * (255 / (u - 1)) ≡ digits u n (λ k. x))
 
@@ -32,10 +34,10 @@ base-of size n u l p q =
   where
     go : (a b c : Bool) → (a ≡ true → size ≤ 2) → (a ≡ false → 2 < size) → (b ≡ true → size ≤ 4) → (c ≡ true → size ≤ 16)
         → Base size (if a then 8 else if b then 4 else if c then 2 else 1) (range (if a then 8 else if b then 4 else if c then 2 else 1))
-    go true b c x o y z = record { fits = x refl; two = lit< tt; most = lit< tt; some = lit< tt; few = lit< tt; whole = refl; group = refl; gap = λ d. (omega arith, (λ q. omega arith)); pairs = λ q. omega arith; ones = λ x h. (omega arith, omega arith) }
-    go false true c x o y z = record { fits = y refl; two = lit< tt; most = lit< tt; some = lit< tt; few = lit< tt; whole = refl; group = refl; gap = λ d. (omega arith, (λ q. omega arith)); pairs = λ q. (let t = o refl in omega arith); ones = λ x h. (omega arith, omega arith) }
-    go false false true x o y z = record { fits = z refl; two = lit< tt; most = lit< tt; some = lit< tt; few = lit< tt; whole = refl; group = refl; gap = λ d. (omega arith, (λ q. omega arith)); pairs = λ q. omega arith; ones = λ x h. (omega arith, omega arith) }
-    go false false false x o y z = record { fits = l; two = lit< tt; most = lit< tt; some = lit< tt; few = lit< tt; whole = refl; group = refl; gap = λ d. (omega arith, (λ q. omega arith)); pairs = λ q. omega arith; ones = λ x h. (omega arith, omega arith) }
+    go true b c x o y z = record { fits = x refl; two = lit< tt; most = lit< tt; some = lit< tt; few = lit< tt; whole = refl; group = refl; places = places-8; pairs = λ q. omega arith; ones = λ x h. (omega arith, omega arith) }
+    go false true c x o y z = record { fits = y refl; two = lit< tt; most = lit< tt; some = lit< tt; few = lit< tt; whole = refl; group = refl; places = places-4; pairs = λ q. (let t = o refl in omega arith); ones = λ x h. (omega arith, omega arith) }
+    go false false true x o y z = record { fits = z refl; two = lit< tt; most = lit< tt; some = lit< tt; few = lit< tt; whole = refl; group = refl; places = places-2; pairs = λ q. omega arith; ones = λ x h. (omega arith, omega arith) }
+    go false false false x o y z = record { fits = l; two = lit< tt; most = lit< tt; some = lit< tt; few = lit< tt; whole = refl; group = refl; places = places-1; pairs = λ q. omega arith; ones = λ x h. (omega arith, omega arith) }
 
 -- how many indices a record holds, by the table's size
 

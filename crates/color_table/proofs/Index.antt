@@ -243,14 +243,6 @@ module _ (size : ℕ) (e f : Picture) where
       go false r = refl
       go true r = sym lacks ∙ every-at m (λ j. hasEntry size e (f j)) i l r
 
-  -- one pixel more that has an entry
-  pub has-more : (i k : ℕ) (all s : Bool) (p : Pixel) → (all ≡ true → EachHas size e f i k) → p ≡ f (i + k) → (s ≡ true → hasEntry size e p ≡ true) → (all && s) ≡ true → EachHas size e f i (k + 1)
-  has-more i k all s p h q t r j l = go (ℕ-discrete j k)
-    where
-      go : Dec (j ≡ k) → hasEntry size e (f (i + j)) ≡ true
-      go (yes d) = rw (d, ← q) (t (and-right all s r))
-      go (no n) = h (and-left all s r) j (omega arith)
-
   -- n pixels more that have entries
   pub accepted-has : (i n : ℕ) → EachHas size e f i n → haveEntries size e i f ≡ true → haveEntries size e (i + n) f ≡ true
   accepted-has i zero h t = rw (add-zero i) t
@@ -258,12 +250,6 @@ module _ (size : ℕ) (e f : Picture) where
       let s : i + suc n ≡ suc (i + n) = omega arith in
       let r = accepted-has i n (λ k l. h k (omega arith)) t in
       ap (λ (m : ℕ). haveEntries size e m f) s ∙ and-both (hasEntry size e (f (i + n))) (haveEntries size e (i + n) f) (h n (omega arith)) r
-
-  -- eight and eight
-  pub accepted-both : (i : ℕ) (s t : Bool) → (s ≡ true → EachHas size e f i 8) → (t ≡ true → EachHas size e f (i + 8) 8) → (s && t) ≡ true → haveEntries size e i f ≡ true → haveEntries size e (i + 16) f ≡ true
-  accepted-both i s t h d r a =
-      let q : i + 8 + 8 ≡ i + 16 = omega arith in
-      rw q at (accepted-has (i + 8) 8 (d (and-right s t r)) (accepted-has i 8 (h (and-left s t r)) a))
 
   -- n pixels more that are one of two
   pub accepted-each : (u v : Pixel) (i n : ℕ) → EachOf u v f i n → haveEntries size e i f ≡ true → hasEntry size e u ≡ true → hasEntry size e v ≡ true → haveEntries size e (i + n) f ≡ true

@@ -1,8 +1,8 @@
 -- Records of a row: one by one, and in groups of sixteen pixels.
 use mathlib.Core.List.{List}
 use mathlib.Core.Path.{_≡_, refl, sym, ap, _∙_}
-use Prim.Native.Nat.{ℕ, suc, _+_, _-_, _*_, _<_, _≤_}
-use native.Mathlib.Nat.{add-zero, mul-assoc, mul-comm, one-mul, mod-eq-of-lt, div-eq-of-lt, mul-le-mul, mul-le-mul-right, suc-mul, add-mul, le-div-iff-mul-le}
+use Prim.Native.Nat.{ℕ, suc, _+_, _-_, _*_, _/_, _<_, _≤_}
+use native.Mathlib.Nat.{add-zero, mul-assoc, mul-comm, one-mul, mod-eq-of-lt, div-eq-of-lt, mul-le-mul, mul-le-mul-right, suc-mul, add-mul, le-div-iff-mul-le, mul-le-mul-left, div-le-self}
 use native.Mathlib.Omega.{arith}
 use borrow.Author.Tests.{lt-ltb}
 use lib.Dec.{ltb}
@@ -15,7 +15,9 @@ use Rattle.pixel.specs.Cells.{pixelCells, putPixel, Rule, run, given}
 use Rattle.pixel.proofs.Cells.{run-none, run-next}
 use Rattle.pixel.proofs.Given.{given-none, given-put}
 use Rattle.pixel.proofs.Rows.{run-then}
+use Rattle.pixel.specs.Word.{unword}
 use Rattle.color_table.specs.Pack.{rowIndices, uniform, plain}
+use Rattle.color_table.specs.Unpack.{FourOf}
 use Rattle.color_table.proofs.Digits.{digits-same}
 
 -- record j of a row by itself
@@ -31,27 +33,6 @@ packed-row w size e f j l =
 pub record-row : (w size : ℕ) (e f : Picture) (n u j : ℕ) (v : Pixel) → v ≡ pixel 0 (digits u n (rowIndices w size e f (j * n))) 0 255 → n ≡ perPixel size → u ≡ range n → j < packedWidth size w
     → v ≡ packed w size e f j
 record-row w size e f n u j v q p r l = q ∙ rw (r, p) (packed-row w size e f j l)
-
--- a record of one index
-pub single-record : (w size i j : ℕ) (e f : Picture) (v p : Pixel) → p ≡ pixel 0 i 0 255 → v ≡ f j → i ≡ indexOf size e v → 1 ≡ perPixel size → j < w → p ≡ packed w size e f j
-unfolding digits rowIndices
-single-record w size i j e f v p q r s places l =
-    let x : j * 1 + 0 ≡ j = omega arith in
-    let c : ceiling w 1 ≡ w = omega arith in
-    let d : i ≡ digits 256 1 (rowIndices w size e f (j * 1)) = rw (x, lt-ltb j w l, ← r) (s ∙ omega arith) in
-    record-row w size e f 1 256 j p (q ∙ ap (λ (b : ℕ). pixel 0 b 0 255) d) places refl (rw (← places) (omega arith))
-
--- of two
-pub double-record : (w size i k b j : ℕ) (e f : Picture) (u v p : Pixel) → p ≡ pixel 0 b 0 255 → b ≡ i + 16 * k → u ≡ f (2 * j) → v ≡ f (2 * j + 1) → i ≡ indexOf size e u → k ≡ indexOf size e v → 2 ≡ perPixel size → 2 * j + 2 ≤ w
-    → p ≡ packed w size e f j
-unfolding digits rowIndices
-double-record w size i k b j e f u v p q z r s x y places l =
-    let o : j * 2 + 0 ≡ 2 * j = omega arith in
-    let t : j * 2 + 1 ≡ 2 * j + 1 = omega arith in
-    let m : 2 * j < w = omega arith in
-    let n : 2 * j + 1 < w = omega arith in
-    let d : b ≡ digits 16 2 (rowIndices w size e f (j * 2)) = rw (o, t, lt-ltb (2 * j) w m, lt-ltb (2 * j + 1) w n, ← r, ← s, ← x, ← y) (z ∙ omega arith) in
-    record-row w size e f 2 16 j p (q ∙ ap (λ (c : ℕ). pixel 0 c 0 255) d) places refl (rw (← places) (omega arith))
 
 -- one record more
 pub given-turn : (f : Picture) (a i : ℕ) (xs₀ xs ys : List ℕ) (v : Pixel) → xs ≡ run pixelCells (given f) a (i - a) xs₀ → v ≡ f i → ys ≡ putPixel xs i v → a ≤ i → ys ≡ run pixelCells (given f) a (i + 1 - a) xs₀
@@ -69,6 +50,18 @@ given-four f j xs₀ xs₁ xs₂ xs₃ xs₄ a b c d p q r s w x y z =
     let two = given-put f j 1 xs₀ xs₁ xs₂ b one x q in
     let three = given-put f j 2 xs₀ xs₂ xs₃ c two y r in
     given-put f j 3 xs₀ xs₃ xs₄ d three z s
+
+-- four records of a row
+module _ (w size : ℕ) (e f : Picture) (n u : ℕ) where
+  abbrev RecordAt : ℕ → ℕ → Type 0
+  RecordAt i v = unword v ≡ pixel 0 (digits u n (rowIndices w size e f (i * n))) 0 255
+
+  pub four-records : (j a b c d : ℕ) → RecordAt j a → RecordAt (j + 1) b → RecordAt (j + 2) c → RecordAt (j + 3) d → n ≡ perPixel size → u ≡ range n → j + 4 ≤ packedWidth size w
+      → FourOf (packed w size e f) j a b c d
+  four-records j a b c d p q r s places base l = record { first = at j a p (omega arith); second = at (j + 1) b q (omega arith); third = at (j + 2) c r (omega arith); fourth = at (j + 3) d s (omega arith) }
+    where
+      at : (i v : ℕ) → RecordAt i v → i < packedWidth size w → unword v ≡ packed w size e f i
+      at i v h m = record-row w size e f n u i (unword v) h places base m
 
 pub column-small : (j n : ℕ) → j ≤ 16384 → n ≤ 8 → j * n ≤ 131072
 column-small j n h l = mul-le-mul {n₁ = j} {m₁ = n} {n₂ = 16384} {m₂ = 8} h l
@@ -117,6 +110,9 @@ module _ (n m : ℕ) (group : m * n ≡ 16) where
       digit k i =
           let c = record-columns g r q a b in
           rw (lt-ltb (q * n + k) w (omega arith)) (ap (indexOf size e) (sym (h (q * n + k) (omega arith) (omega arith))))
+
+pub group-columns : (g n : ℕ) → ((g + 1) * (16 / n) ≡ g * (16 / n) + 16 / n) × (g * (16 / n) ≤ 16 * g)
+group-columns g n = (add-mul g 1 (16 / n) ∙ ap (λ (z : ℕ). g * (16 / n) + z) (one-mul (16 / n)), omega (arith, mul-le-mul-left g (div-le-self 16 n)))
 
 -- groups more
 

@@ -1,5 +1,5 @@
-// Whether pixels have entries. Pictures are runs of few colors, so that groups of sixteen pixels are compared with the pixel before them and their
-// last one, and each is looked up only where one differs from both: first with no branch, by one slot, and one by one where that does not find all.
+// Whether pixels have entries. Pictures are runs of few colors, so that groups of sixteen pixels are compared with the
+// pixel before them and their last one, and each is looked up only where one differs from both.
 use crate::find::find;
 use crate::find::first_holds;
 use crate::find::same;
@@ -11,7 +11,7 @@ ghost use lib.ListN.{length};
 ghost use Rattle.format.specs.Picture.{pixels};
 ghost use Rattle.format.specs.ColorTable.{hasEntry, haveEntries};
 ghost use Rattle.pixel.specs.Word.{unword};
-ghost use Rattle.color_table.specs.Pack.{Hints, Table, EachOf, EachHas};
+ghost use Rattle.color_table.specs.Pack.{Hints, Table, EachOf};
 
 // Whether each of the eight pixels from i on is a or b: with no branch, so that they are compared at once. A group is two of these, since a function of sixteen pixels
 // is not inlined.
@@ -68,21 +68,6 @@ fn accept_each(
     true
 }
 
-// Whether each of the eight pixels from i on has its entry in its first slot: with no branch.
-fn eight_first(row: &[u8], i: usize, entries: &[u8], size: usize, hints: &[u8]) -> bool
-    requires { ⌜ Table size (now entries) (now hints) ⌝ }
-    requires { ⌜ 4 * (i + 8) ≤ length (now row) ⌝ }
-    ensures { λ r. ⌜ (r ≡ true → EachHas size (pixels (now (entries .entry))) (pixels (now (row .entry))) i 8) ⌝ }
-{
-    let mut all = true;
-    let mut k = 0;
-    while k < 8 {
-        all = all & first_holds(entries, size, hints, word_at(row, i + k));
-        k += 1;
-    }
-    all
-}
-
 // Whether each of the first i + 16 pixels has an entry, where those before i have and a has one. Most groups are the pixel before them, a, or that and one color more: one branch for both, so that
 // a change of color is not mispredicted.
 fn accept_group(row: &[u8], i: usize, a: u32, entries: &[u8], size: usize, hints: &[u8]) -> bool
@@ -94,9 +79,6 @@ fn accept_group(row: &[u8], i: usize, a: u32, entries: &[u8], size: usize, hints
     let c = word_at(row, i + 15);
     let known = first_holds(entries, size, hints, c) | same(c, a);
     if known & (eight_of(row, i, a, c) & eight_of(row, i + 8, a, c)) {
-        return true;
-    }
-    if eight_first(row, i, entries, size, hints) & eight_first(row, i + 8, entries, size, hints) {
         return true;
     }
     accept_each(row, i, i + 16, entries, size, hints)

@@ -73,7 +73,7 @@ fn pack_record(
 }
 
 // Records `from` up to `to`.
-fn pack_each(
+pub fn pack_each(
     row: &[u8],
     width: usize,
     out: &mut [u8],
@@ -98,79 +98,5 @@ fn pack_each(
             pack_record(row, width, j * n, n, range, entries, size, hints),
         );
         j += 1;
-    }
-}
-
-// The same where a record holds one index, so that no sum is made.
-pub fn pack_singles(
-    row: &[u8],
-    width: usize,
-    out: &mut [u8],
-    from: usize,
-    to: usize,
-    entries: &[u8],
-    size: usize,
-    hints: &[u8],
-)
-    requires { ⌜ Table size (now entries) (now hints) ⌝ }
-    requires { ⌜ Row size width 1 256 (now entries) (now row) ⌝ }
-    requires { ⌜ (from ≤ to) × (to ≤ width) × (4 * to ≤ length (now out)) ⌝ }
-    ensures { λ _. ⌜ now (out .exit) ≡ run pixelCells (given (packedOf width size (pixels (now (entries .entry))) (pixels (now (row .entry))))) from (to - from) (now (out .entry)) ⌝ }
-{
-    let mut j = from;
-    while j < to {
-        let i = find(entries, size, hints, word_at(row, j));
-        put_word(out, j, record_of(i as u32));
-        j += 1;
-    }
-}
-
-// The same where a record holds two, and is inside the row.
-pub fn pack_doubles(
-    row: &[u8],
-    width: usize,
-    out: &mut [u8],
-    from: usize,
-    to: usize,
-    entries: &[u8],
-    size: usize,
-    hints: &[u8],
-)
-    requires { ⌜ Table size (now entries) (now hints) ⌝ }
-    requires { ⌜ Row size width 2 16 (now entries) (now row) ⌝ }
-    requires { ⌜ (from ≤ to) × (2 * to ≤ width) × (4 * to ≤ length (now out)) ⌝ }
-    ensures { λ _. ⌜ now (out .exit) ≡ run pixelCells (given (packedOf width size (pixels (now (entries .entry))) (pixels (now (row .entry))))) from (to - from) (now (out .entry)) ⌝ }
-{
-    let mut j = from;
-    while j < to {
-        let low = find(entries, size, hints, word_at(row, 2 * j));
-        let high = find(entries, size, hints, word_at(row, 2 * j + 1));
-        put_word(out, j, record_of((low + 16 * high) as u32));
-        j += 1;
-    }
-}
-
-// The same for any n.
-pub fn pack_records(
-    row: &[u8],
-    width: usize,
-    out: &mut [u8],
-    from: usize,
-    to: usize,
-    n: usize,
-    range: usize,
-    entries: &[u8],
-    size: usize,
-    hints: &[u8],
-)
-    requires { ⌜ Table size (now entries) (now hints) ⌝ }
-    requires { ⌜ Row size width n range (now entries) (now row) ⌝ }
-    requires { ⌜ (from ≤ to) × (to ≤ packedWidth size width) × (4 * to ≤ length (now out)) ⌝ }
-    ensures { λ _. ⌜ now (out .exit) ≡ run pixelCells (given (packedOf width size (pixels (now (entries .entry))) (pixels (now (row .entry))))) from (to - from) (now (out .entry)) ⌝ }
-{
-    if n == 1 {
-        pack_singles(row, width, out, from, to, entries, size, hints);
-    } else {
-        pack_each(row, width, out, from, to, n, range, entries, size, hints);
     }
 }

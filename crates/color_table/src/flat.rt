@@ -1,14 +1,14 @@
 // Storing where a table has at most four entries: indices by comparing with each entry, with no branch, four records at a time, so that they are compared at once.
 use crate::each::record_of;
 use crate::find::same;
-use pixel::word::put_word;
+use crate::four::put_four;
 use pixel::word::word_at;
 ghost use mathlib.Core.Path.{_≡_};
 ghost use Prim.Native.Nat.{_+_, _*_, _<_, _≤_};
 ghost use lib.ListN.{length};
 ghost use Rattle.format.specs.Choice.{if_then_else_};
 ghost use Rattle.format.specs.Pixel.{pixel};
-ghost use Rattle.format.specs.Picture.{Picture, pixels};
+ghost use Rattle.format.specs.Picture.{pixels};
 ghost use Rattle.format.specs.ColorTable.{packedWidth, indexOf, digits, packed as packedOf};
 ghost use Rattle.pixel.specs.Cells.{pixelCells, run, given};
 ghost use Rattle.pixel.specs.Word.{unword};
@@ -63,17 +63,6 @@ fn flat_record(
     record_of(b)
 }
 
-// Four records from j on, stored when all are known: the compiler has to assume that a store changes the row.
-fn store_four(out: &mut [u8], j: usize, a: u32, b: u32, c: u32, d: u32)
-    requires { ⌜ 4 * (j + 4) ≤ length (now out) ⌝ }
-    ensures { λ _. ⌜ ((f : Picture) → unword a ≡ f j → unword b ≡ f (j + 1) → unword c ≡ f (j + 2) → unword d ≡ f (j + 3) → now (out .exit) ≡ run pixelCells (given f) j 4 (now (out .entry))) ⌝ }
-{
-    put_word(out, j, a);
-    put_word(out, j + 1, b);
-    put_word(out, j + 2, c);
-    put_word(out, j + 3, d);
-}
-
 // Four records of two bits an index. Here and below n is a constant, for which the loops are compiled.
 pub fn put_pairs(row: &[u8], width: usize, out: &mut [u8], j: usize, entries: &[u8], size: usize)
     requires { ⌜ Few size 4 (now entries) ⌝ }
@@ -81,7 +70,7 @@ pub fn put_pairs(row: &[u8], width: usize, out: &mut [u8], j: usize, entries: &[
     requires { ⌜ (4 * (j + 4) ≤ width) × (4 * (j + 4) ≤ length (now out)) ⌝ }
     ensures { λ _. ⌜ now (out .exit) ≡ run pixelCells (given (packedOf width size (pixels (now (entries .entry))) (pixels (now (row .entry))))) j 4 (now (out .entry)) ⌝ }
 {
-    store_four(
+    put_four(
         out,
         j,
         flat_record(row, width, j * 4, 4, 4, entries, size),
@@ -98,7 +87,7 @@ fn put_bits(row: &[u8], width: usize, out: &mut [u8], j: usize, entries: &[u8], 
     requires { ⌜ (8 * (j + 4) ≤ width) × (4 * (j + 4) ≤ length (now out)) ⌝ }
     ensures { λ _. ⌜ now (out .exit) ≡ run pixelCells (given (packedOf width size (pixels (now (entries .entry))) (pixels (now (row .entry))))) j 4 (now (out .entry)) ⌝ }
 {
-    store_four(
+    put_four(
         out,
         j,
         flat_record(row, width, j * 8, 8, 2, entries, size),

@@ -1,5 +1,5 @@
 // Storing: a row of accepted pixels to indices, packed into records of a strip.
-use crate::each::pack_records;
+use crate::each::pack_each;
 use crate::flat::pack_bits;
 use crate::runs::pack_runs;
 use pixel::stride::Expanded;
@@ -53,7 +53,7 @@ fn pack_by(
 {
     let from = pack_front(row, width, out, n, range, entries, size, hints);
     let to = (width + n - 1) / n;
-    pack_records(row, width, out, from, to, n, range, entries, size, hints);
+    pack_each(row, width, out, from, to, n, range, entries, size, hints);
 }
 
 // A row of accepted pixels, packed at the front of `out`.

@@ -1,7 +1,6 @@
 // Storing by runs: sixteen pixels at a time are compared with the one before them, and packed one by one only where they differ.
 use crate::accept::eight_of;
-use crate::each::pack_doubles;
-use crate::each::pack_singles;
+use crate::each::pack_each;
 use crate::each::record_of;
 use crate::find::find;
 use crate::flat::put_pairs;
@@ -13,6 +12,7 @@ ghost use lib.ListN.{length};
 ghost use Rattle.format.specs.Picture.{pixels};
 ghost use Rattle.format.specs.ColorTable.{packedWidth, packed as packedOf};
 ghost use Rattle.pixel.specs.Cells.{pixelCells, run, given};
+ghost use Rattle.pixel.specs.Stride.{Places};
 ghost use Rattle.pixel.specs.Word.{unword};
 ghost use Rattle.color_table.specs.Pack.{Table, Row, uniform, plain, Filled};
 
@@ -82,16 +82,18 @@ fn fill_groups(row: &[u8], out: &mut [u8], groups: usize, n: usize, last: Last) 
 
 // The same: in each arm n is a constant, for which the loop is compiled.
 fn fill_run(row: &[u8], out: &mut [u8], groups: usize, n: usize, last: Last) -> usize
-    requires { ⌜ (1 ≤ n) × (n ≤ 4) × (n ≡ 3 → ⊥) ⌝ }
+    requires { ⌜ Places n ⌝ }
     requires { ⌜ (last .groups ≤ groups) × (64 * groups ≤ length (now row)) × (4 * (groups * (16 / n)) ≤ length (now out)) ⌝ }
     ensures { λ r. ⌜ Filled n (last .groups) r groups (unword (last .word)) (unword (last .packed)) (pixels (now (row .entry))) (now (out .entry)) (now (out .exit)) ⌝ }
 {
-    if n == 1 {
-        fill_groups(row, out, groups, 1, last)
+    if n == 8 {
+        fill_groups(row, out, groups, 8, last)
+    } else if n == 4 {
+        fill_groups(row, out, groups, 4, last)
     } else if n == 2 {
         fill_groups(row, out, groups, 2, last)
     } else {
-        fill_groups(row, out, groups, 4, last)
+        fill_groups(row, out, groups, 1, last)
     }
 }
 
@@ -109,17 +111,15 @@ fn pack_group(
 )
     requires { ⌜ Table size (now entries) (now hints) ⌝ }
     requires { ⌜ Row size width n range (now entries) (now row) ⌝ }
-    requires { ⌜ (n ≡ 8 → ⊥) × (16 * (g + 1) ≤ width) × (4 * ((g + 1) * (16 / n)) ≤ length (now out)) ⌝ }
+    requires { ⌜ (16 * (g + 1) ≤ width) × (4 * ((g + 1) * (16 / n)) ≤ length (now out)) ⌝ }
     ensures { λ _. ⌜ now (out .exit) ≡ run pixelCells (given (packedOf width size (pixels (now (entries .entry))) (pixels (now (row .entry))))) (g * (16 / n)) (16 / n) (now (out .entry)) ⌝ }
 {
     if n == 4 {
         put_pairs(row, width, out, g * 4, entries, size);
-    } else if n == 2 {
-        let j = g * 8;
-        pack_doubles(row, width, out, j, j + 8, entries, size, hints);
     } else {
-        let j = g * 16;
-        pack_singles(row, width, out, j, j + 16, entries, size, hints);
+        let m = 16 / n;
+        let j = g * m;
+        pack_each(row, width, out, j, j + m, n, range, entries, size, hints);
     }
 }
 
@@ -138,7 +138,7 @@ fn pack_run(
 ) -> Last
     requires { ⌜ Table size (now entries) (now hints) ⌝ }
     requires { ⌜ Row size width n range (now entries) (now row) ⌝ }
-    requires { ⌜ (n ≡ 8 → ⊥) × (last .groups < groups) × (16 * groups ≤ width) × (4 * (groups * (16 / n)) ≤ length (now out)) ⌝ }
+    requires { ⌜ (last .groups < groups) × (16 * groups ≤ width) × (4 * (groups * (16 / n)) ≤ length (now out)) ⌝ }
     requires { ⌜ unword (last .packed) ≡ uniform range n size (pixels (now entries)) (unword (last .word)) ⌝ }
     ensures { λ r. ⌜ (last .groups < r .groups) × (r .groups ≤ groups) × (unword (r .packed) ≡ uniform range n size (pixels (now (entries .entry))) (unword (r .word))) × (now (out .exit) ≡ run pixelCells (given (packedOf width size (pixels (now (entries .entry))) (pixels (now (row .entry))))) (last .groups * (16 / n)) (r .groups * (16 / n) - last .groups * (16 / n)) (now (out .entry))) ⌝ }
 {
@@ -177,7 +177,7 @@ pub fn pack_runs(
 ) -> usize
     requires { ⌜ Table size (now entries) (now hints) ⌝ }
     requires { ⌜ Row size width n range (now entries) (now row) ⌝ }
-    requires { ⌜ (n ≡ 8 → ⊥) × (4 * packedWidth size width ≤ length (now out)) ⌝ }
+    requires { ⌜ (4 * packedWidth size width ≤ length (now out)) ⌝ }
     ensures { λ r. ⌜ (r ≤ packedWidth size width) × (now (out .exit) ≡ run pixelCells (given (packedOf width size (pixels (now (entries .entry))) (pixels (now (row .entry))))) 0 r (now (out .entry))) ⌝ }
 {
     let groups = width / 16;

@@ -1,4 +1,4 @@
--- `accept_group` meets its contract: pixels that are one of two entries have one, and so have pixels whose first slots hold theirs; else each is looked up.
+-- `accept_group` meets its contract: pixels that are one of two entries have one; else each is looked up.
 use mathlib.Core.Bool.{_||_}
 use mathlib.Core.Path.{sym}
 use native.Mathlib.Omega.{arith}
@@ -6,7 +6,7 @@ use borrow.Author.Needs.{needs}
 use Rattle.format.specs.Picture.{pixels}
 use Rattle.format.proofs.Choice.{and-left, and-right}
 use Rattle.pixel.specs.Word.{unword}
-use Rattle.color_table.proofs.Index.{each-both, accepted-each, accepted-both, known-entry}
+use Rattle.color_table.proofs.Index.{each-both, accepted-each, known-entry}
 use Rattle.color_table.proofs.accept.accept_group.Statement.{statement}
 use Rattle.color_table.proofs.accept.accept_group.Tie as tie
 
@@ -28,10 +28,6 @@ accept-group-spec =
     let b = each-both u v (pixels (c .before .before .before .before .before .before .before .before .before .args .row .now)) (c .before .before .before .before .before .before .before .before .before .args .i) _ _ (c .before .before .eight-of .ensures) (c .before .eight-of2 .ensures) (and-right k _ (c .if1 .taken)) in
     let x = c .before .before .before .before .before .before .before .before .before .pre .1 .1 in
     sym (accepted-each _ _ _ _ _ (c .before .before .before .before .before .before .before .before .before .args .i) 16 b (x .0) (x .1) (known-entry _ _ u v _ _ (c .before .before .before .before .first-holds .ensures) (c .before .before .before .same .ensures) (x .1) (and-left k _ (c .if1 .taken)))))
-    (λ c κs. (c .before .before .before .before .before .before .before .before .before .pre .0, omega arith))
-    (λ c. omega arith)
-    (λ c κs. (c .before .before .before .before .before .before .before .before .before .before .pre .0, omega arith))
-    (λ c. sym (accepted-both _ _ _ (c .before .before .before .before .before .before .before .before .before .before .before .before .args .i) _ _ (c .before .before .eight-first .ensures) (c .before .eight-first2 .ensures) (c .if2 .taken) (c .before .before .before .before .before .before .before .before .before .before .before .before .pre .1 .1 .0)))
     (λ c. search needs)
-    (λ c κs. (c .before .before .before .before .before .before .before .before .before .before .before .before .pre .0, ((omega arith, omega arith), c .before .before .before .before .before .before .before .before .before .before .before .before .pre .1 .1 .0)))
+    (λ c κs. (c .before .before .before .before .before .before .before .before .before .pre .0, ((omega arith, omega arith), c .before .before .before .before .before .before .before .before .before .pre .1 .1 .0)))
     (λ c. search needs))

@@ -32,4 +32,4 @@ pack-by-spec =
     let a = all s in
     let f = c .before .before .before .before .before .before .pack-front .ensures in
     let l = f .0 in
-    front-done _ _ _ _ _ (run-then _ _ _ _ _ _ _ (f .1) (c .before .before .pack-records .ensures) refl) (omega arith) (s .pre .1 .1)))
+    front-done _ _ _ _ _ (run-then _ _ _ _ _ _ _ (f .1) (c .before .before .pack-each .ensures) refl) (omega arith) (s .pre .1 .1)))

@@ -38,10 +38,10 @@ pub pack-run-spec : {M : Type 1} → statement M
 pack-run-spec =
     tie.close
     (tie.spec
-    (λ c κs. let s = c .before .before .before .before .before in let b = base s in let g = b .gap (s .pre .1 .1 .0 .0) in let t = s .pre .1 .0 .there in ((b .some, g .0, g .1), (omega arith, omega arith, s .pre .1 .1 .0 .3)))
+    (λ c κs. let s = c .before .before .before .before .before in let t = s .pre .1 .0 .there in (base s .places, (omega arith, omega arith, s .pre .1 .1 .0 .2)))
     (λ c. search needs)
     (λ c. let f = c .before .before .before .fill-run .ensures in (omega arith, f .to, c .before .before .before .before .before .before .before .before .before .pre .1 .1 .1, filled (c .before .before .before .before .before .before .before .before .before) _ _ _ f))
-    (λ c κs. let s = c .before .before .before .before .before .before .before .before .before .before in let r = turn s (c .before .before .before .before .fill-run .result) (omega arith) in (s .pre .0, (s .pre .1 .0, (s .pre .1 .1 .0 .0, omega arith, omega arith))))
+    (λ c κs. let s = c .before .before .before .before .before .before .before .before .before .before in let r = turn s (c .before .before .before .before .fill-run .result) (omega arith) in (s .pre .0, (s .pre .1 .0, (omega arith, omega arith))))
     (λ c. omega arith)
     (λ c. omega arith)
     (λ c. omega arith)

@@ -47,7 +47,7 @@ pack-runs-spec =
     μ-loop
     (λ c κs. (c .before .before .before .before .pre .0, (c .before .before .before .before .pre .1 .0, c .before .before .before .before .pre .1 .0 .wide)))
     (λ c. let e = c .last-of .ensures in (omega arith, refl, e .1, rw (e .0) (no-rows _ _ _)))
-    (λ c κs. let s = c .before .before .before .before .before .before .before .before .before in let i = inside s in let l = c .before .before .before .loop in (s .pre .0, (s .pre .1 .0, ((s .pre .1 .1 .0, omega arith, omega arith, omega arith), l .inv .2))))
+    (λ c κs. let s = c .before .before .before .before .before .before .before .before .before in let i = inside s in let l = c .before .before .before .loop in (s .pre .0, (s .pre .1 .0, ((omega arith, omega arith, omega arith), l .inv .2))))
     (λ c. let p = c .before .before .pack-run .ensures in omega arith)
     (λ c.
     let l = c .before .before .before .before .before .before .loop in

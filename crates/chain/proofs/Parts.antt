@@ -1,12 +1,11 @@
 -- The part of the data that a valid record names.
 use mathlib.Core.List.{List}
-use mathlib.Core.Path.{_≡_, sym, ap, _∙_}
+use mathlib.Core.Path.{_≡_, ap, _∙_}
 use Prim.Native.Nat.{ℕ, _+_, _-_, _*_, _≤_}
 use native.Mathlib.Omega.{arith}
 use lib.ListN.{length, drop, length-drop}
 use lib.Seq.{length-take-le}
 use Rattle.format.specs.declared.Step.{Step}
-use Rattle.format.specs.Picture.{Picture, written}
 use Rattle.format.specs.Sizes.{Blocked}
 use Rattle.format.specs.ValidStep.{ValidStep}
 use Rattle.format.specs.Stages.{dataOf}
@@ -29,7 +28,3 @@ table-kind s h n valid r = let l = valid .known in three (s .kind) l (r .0 .0 .1
   where
     three : (k : ℕ) → k ≤ 3 → (k ≡ 0 → ⊥) → (k ≡ 1 → ⊥) → (k ≡ 2 → ⊥) → k ≡ 3
     three k l a b c = omega arith
-
--- a transform under its two names
-pub as-kind : (n : ℕ) (f g : Picture) (xs ys : List ℕ) → f ≡ g → ys ≡ written n g xs → ys ≡ written n f xs
-as-kind n f g xs ys e q = q ∙ ap (λ (k : Picture). written n k xs) (sym e)

@@ -1,3 +1,3 @@
 mod Delta
-mod Pointwise
+pub mod Pointwise
 mod Blocks

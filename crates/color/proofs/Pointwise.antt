@@ -40,14 +40,13 @@ module _ (k : ℕ → Pixel → Pixel) where
   pub within-done : (i w : ℕ) (xs₀ xs : List ℕ) → Within i w xs₀ xs → w ≤ i → xs ≡ run pixelCells (pointwise k) 0 w xs₀
   within-done i w xs₀ xs e l = let z : min i w ≡ w = omega arith in rw z at e
 
-  -- once all rows are done: the rule in order is the rule at each index, since a pixel is read before it is replaced
-  pub finished : (y h w : ℕ) (xs ys : List ℕ) → ys ≡ run pixelCells (pointwise k) 0 (y * w) xs → y ≡ h → 4 * (h * w) ≤ length xs → ys ≡ written (h * w) (λ q. k q (pixels xs q)) xs
+  -- from the front: the rule in order is the rule at each index, since a pixel is read before it is replaced
+  pub pointwise-written : (n : ℕ) (xs : List ℕ) → 4 * n ≤ length xs → run pixelCells (pointwise k) 0 n xs ≡ written n (λ q. k q (pixels xs q)) xs
   unfolding pointwise
-  finished y h w xs ys e q l =
-      rw q at e
-      ∙ pixels-run (pointwise k) xs (h * w) l
-      ∙ written-same (h * w) (inOrder (pointwise k) (h * w) (pixels xs)) (λ i. k i (pixels xs i)) xs
-      (λ i u. inOrder-at (pointwise k) (pixels xs) (h * w) i u ∙ ap (k i) (inOrder-ahead (pointwise k) (pixels xs) i i (le-refl i)))
+  pointwise-written n xs l =
+      pixels-run (pointwise k) xs n l
+      ∙ written-same n (inOrder (pointwise k) n (pixels xs)) (λ i. k i (pixels xs i)) xs
+      (λ i u. inOrder-at (pointwise k) (pixels xs) n i u ∙ ap (k i) (inOrder-ahead (pointwise k) (pixels xs) i i (le-refl i)))
 
 -- row y of the picture by k' is the row by k
 module _ (k' k : ℕ → Pixel → Pixel) (y w : ℕ) (xs ys : List ℕ) where

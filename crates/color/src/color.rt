@@ -9,16 +9,13 @@ use pixel::word::write_pixel;
 use std::num::wrapping_add_u8;
 use std::num::wrapping_sub_u8;
 ghost use mathlib.Core.Path.{_≡_};
-ghost use Prim.Native.Nat.{_-_, _*_, _<_, _≤_};
+ghost use Prim.Native.Nat.{_*_, _<_, _≤_};
 ghost use lib.ListN.{length};
-ghost use Rattle.format.specs.Picture.{Picture, pixels, written};
-ghost use Rattle.format.specs.Color.{inverseColor, transformColor, colorRebuilt, colorStored};
-ghost use Rattle.pixel.specs.Cells.{pixelCells, run};
+ghost use Rattle.format.specs.Color.{inverseColor, transformColor};
 ghost use Rattle.format.specs.Sizes.{Sized, Holds, Blocked};
 ghost use Rattle.pixel.specs.Blocks.{BlockedRow};
-ghost use Rattle.pixel.specs.Held.{HoldsRow};
 ghost use Rattle.color.specs.Factor.{Factor, DeltaBy, PixelBy};
-ghost use Rattle.color.specs.Row.{pointwise, everywhere, inRow, inPicture};
+ghost use Rattle.color.specs.Row.{madeBy, rowMade, colorRow, ColorRowStored};
 
 // The signed byte t modulo 2^13.
 fn factor(t: u8) -> u32
@@ -27,7 +24,8 @@ fn factor(t: u8) -> u32
     wide(t % 128) + wide(t / 128) * 8064
 }
 
-// With u - 128 for the signed byte c, the product is m * u - 128 * m. 2^20 keeps it from falling below 0 and is lost modulo 256, as 2^13 / 32 is 256.
+// With u - 128 for the signed byte c, the product is m * u - 128 * m. 2^20 keeps it from falling below 0 and is lost modulo
+// 256, as 2^13 / 32 is 256.
 fn color_transform_delta(m: u32, c: u8) -> u8
     requires { ⌜ m < 8192 ⌝ }
     ensures { λ r. ⌜ DeltaBy m c r ⌝ }
@@ -75,7 +73,7 @@ pub fn transform_pixel(e: Pixel, v: Pixel) -> Pixel
 // Columns of one block, whose data pixel is e.
 fn rebuild_segment(row: &mut [u8], from: usize, to: usize, e: Pixel)
     requires { ⌜ (from ≤ to) × (4 * to ≤ length (now row)) ⌝ }
-    ensures { λ _. ⌜ now (row .exit) ≡ run pixelCells (pointwise (everywhere (inverseColor e))) from (to - from) (now (row .entry)) ⌝ }
+    ensures { λ _. ⌜ now (row .exit) ≡ madeBy (inverseColor e) from to (now (row .entry)) ⌝ }
 {
     let green_to_red = factor(e.blue);
     let green_to_blue = factor(e.green);
@@ -90,7 +88,7 @@ fn rebuild_segment(row: &mut [u8], from: usize, to: usize, e: Pixel)
 
 fn store_segment(row: &mut [u8], from: usize, to: usize, e: Pixel)
     requires { ⌜ (from ≤ to) × (4 * to ≤ length (now row)) ⌝ }
-    ensures { λ _. ⌜ now (row .exit) ≡ run pixelCells (pointwise (everywhere (transformColor e))) from (to - from) (now (row .entry)) ⌝ }
+    ensures { λ _. ⌜ now (row .exit) ≡ madeBy (transformColor e) from to (now (row .entry)) ⌝ }
 {
     let green_to_red = factor(e.blue);
     let green_to_blue = factor(e.green);
@@ -107,7 +105,7 @@ fn store_segment(row: &mut [u8], from: usize, to: usize, e: Pixel)
 fn rebuild_row(row: &mut [u8], width: usize, bits: u32, blocks: &[u8])
     requires { ⌜ BlockedRow width bits (now blocks) ⌝ }
     requires { ⌜ 4 * width ≤ length (now row) ⌝ }
-    ensures { λ _. ⌜ now (row .exit) ≡ run pixelCells (pointwise (inRow inverseColor bits (pixels (now (blocks .entry))))) 0 width (now (row .entry)) ⌝ }
+    ensures { λ _. ⌜ now (row .exit) ≡ rowMade inverseColor width bits (now (blocks .entry)) (now (row .entry)) ⌝ }
 {
     let mut x = 0;
     while x < width {
@@ -120,7 +118,7 @@ fn rebuild_row(row: &mut [u8], width: usize, bits: u32, blocks: &[u8])
 fn store_segments(row: &mut [u8], width: usize, bits: u32, blocks: &[u8])
     requires { ⌜ BlockedRow width bits (now blocks) ⌝ }
     requires { ⌜ 4 * width ≤ length (now row) ⌝ }
-    ensures { λ _. ⌜ now (row .exit) ≡ run pixelCells (pointwise (inRow transformColor bits (pixels (now (blocks .entry))))) 0 width (now (row .entry)) ⌝ }
+    ensures { λ _. ⌜ now (row .exit) ≡ rowMade transformColor width bits (now (blocks .entry)) (now (row .entry)) ⌝ }
 {
     let mut x = 0;
     while x < width {
@@ -141,7 +139,7 @@ pub fn rebuild_row_at(
 )
     requires { ⌜ Sized width height × Blocked width height bits (now blocks) × (y < height) ⌝ }
     requires { ⌜ Holds width height (now image) ⌝ }
-    ensures { λ _. ⌜ now (image .exit) ≡ run pixelCells (pointwise (inPicture inverseColor width bits (pixels (now (blocks .entry))))) (y * width) width (now (image .entry)) ⌝ }
+    ensures { λ _. ⌜ now (image .exit) ≡ colorRow width bits (now (blocks .entry)) y (now (image .entry)) ⌝ }
 {
     let a = 4 * (y * width);
     let b = a + 4 * width;
@@ -155,28 +153,10 @@ pub fn rebuild_row_at(
 pub fn store_row(row: &mut [u8], width: usize, height: usize, bits: u32, blocks: &[u8], y: usize)
     requires { ⌜ Sized width height × Blocked width height bits (now blocks) × (y < height) ⌝ }
     requires { ⌜ 4 * width ≤ length (now row) ⌝ }
-    ensures { λ _. ⌜ ((f : Picture) → HoldsRow f y width (now (row .entry)) → HoldsRow (colorStored width bits (pixels (now (blocks .entry))) f) y width (now (row .exit))) ⌝ }
+    ensures { λ _. ⌜ ColorRowStored width bits (now (blocks .entry)) y (now (row .entry)) (now (row .exit)) ⌝ }
 {
     let bx = subsample_size(width, bits);
     let c = 4 * ((y >> bits) * bx);
     let d = c + 4 * bx;
     store_segments(row, width, bits, &blocks[c..d]);
-}
-
-pub fn apply_color_transform(
-    image: &mut [u8],
-    width: usize,
-    height: usize,
-    bits: u32,
-    blocks: &[u8],
-)
-    requires { ⌜ Sized width height × Blocked width height bits (now blocks) ⌝ }
-    requires { ⌜ Holds width height (now image) ⌝ }
-    ensures { λ _. ⌜ now (image .exit) ≡ written (height * width) (colorRebuilt width bits (pixels (now (blocks .entry))) (pixels (now (image .entry)))) (now (image .entry)) ⌝ }
-{
-    let mut y = 0;
-    while y < height {
-        rebuild_row_at(image, width, height, bits, blocks, y);
-        y += 1;
-    }
 }

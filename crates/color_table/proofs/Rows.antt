@@ -13,7 +13,6 @@ use Rattle.format.proofs.ColorTable.{perPixel-pos, column-packed}
 use Rattle.pixel.specs.Cells.{pixelCells, putPixel, run, given}
 use Rattle.pixel.specs.Word.{unword}
 use Rattle.pixel.proofs.Cells.{pixel-lawful, run-before}
-use Rattle.pixel.proofs.Blocks.{row-there}
 use Rattle.pixel.proofs.Part.{back, part-run, pixel-part}
 use Rattle.pixel.proofs.Given.{given-same, given-before, given-join}
 use Rattle.color_table.specs.Table.{ColumnsOf}
@@ -132,9 +131,6 @@ module _ (w size y : ℕ) (e : Picture) (xs : List ℕ) (some : 1 ≤ w) (fits :
 
 -- the rows of the picture
 
-pub row-room : (r h w m n : ℕ) → 4 * (h * w) ≤ m → n ≡ m → r < h → 4 * (r * w + w) ≤ n
-row-room r h w m n f q l = let a = row-there w h r l in omega arith
-
 module _ (w size h : ℕ) (e : Picture) (some : 1 ≤ w) where
   abbrev Whole : List ℕ → Picture
   Whole xs = unpacked w size e (pixels xs)
@@ -164,13 +160,3 @@ module _ (w size h : ℕ) (e : Picture) (some : 1 ≤ w) where
       λ p u. ap (λ (zs : List ℕ). pixels zs p) r ∙ run-before pixelCells pixel-lawful (given (Whole xs₀)) (y * w) xs₀ (h * w - y * w) p (omega arith) in
       let f : ys ≡ run pixelCells (given (Whole xs₀)) (j * w) w xs = q ∙ given-same (Whole xs) (Whole xs₀) (j * w) xs w (λ i t u. whole-same j (pixels xs) (pixels xs₀) i kept t u) in
       given-join (Whole xs₀) (j * w) (y * w) (h * w) xs₀ xs ys r (rw k f) (omega arith) (omega arith)
-
-  pub rows-none : (xs : List ℕ) → xs ≡ run pixelCells (given (Whole xs)) (h * w) (h * w - h * w) xs
-  unfolding run
-  rows-none xs = let z : h * w - h * w ≡ 0 = omega arith in rw z
-
-  pub rows-done : (y : ℕ) (xs₀ xs : List ℕ) → xs ≡ run pixelCells (given (Whole xs₀)) (y * w) (h * w - y * w) xs₀ → y ≡ 0 → xs ≡ run pixelCells (given (Whole xs₀)) 0 (h * w) xs₀
-  rows-done y xs₀ xs r q =
-      let a : y * w ≡ 0 = ap (λ (z : ℕ). z * w) q ∙ omega arith in
-      let b : h * w - y * w ≡ h * w = omega arith in
-      rw (b, a) at r

@@ -3,9 +3,8 @@
 use mathlib.Core.List.{List, [], _∷_, _++_, map}
 use mathlib.Core.Path.{_≡_, refl}
 use Prim.Native.Nat.{ℕ}
-use Rattle.format.specs.declared.Pixel.{Pixel}
 use Rattle.format.specs.Byte.{delta}
-use Rattle.format.specs.Pixel.{pixel, black, clear, each, each3}
+use Rattle.format.specs.Pixel.{pixel, clear, each, each3}
 use Rattle.format.specs.Picture.{pixels, written, inOrder, block, writtenBytes}
 use Rattle.format.specs.Predictor.{predict, select, predicted, residuals, gained}
 use Rattle.format.specs.Color.{inverseColor, colorRebuilt}
@@ -18,29 +17,7 @@ use Rattle.format.specs.Stages.{forward, backward, stored, rebuilt, take
 use Rattle.format.specs.Made.{namedBy, named, columns, madeOf, takesItem, missing}
 use Rattle.format.specs.Retouch.{spotsOf, spotRecords, unmade, remade, newStrip, changes, pointAnswer}
 use Rattle.format.specs.Calls.{pairRefusal, rebuildAnswer, rebuildImage, storeAnswer, storeStrip, retouchAnswer, retouchPicture, retouchStrip}
-
-pub record Line : Type 0 where
-  pub computed : List ℕ
-  pub expected : List ℕ
-
-infixl 2 _is_
-abbrev _is_ : List ℕ → List ℕ → Line
-xs is ys = record { computed = xs; expected = ys }
-
--- the bytes of one pixel
-abbrev one : Pixel → List ℕ
-one v = written 1 (λ i. v) []
-
--- a record of a chain: kind, bits, size and length, each in one byte; its part starts at the data's front
-abbrev chainOf : ℕ → ℕ → ℕ → ℕ → List ℕ
-chainOf kind bits size bytes = kind ∷ bits ∷ size ∷ 0 ∷ 0 ∷ 0 ∷ 0 ∷ 0 ∷ bytes ∷ 0 ∷ 0 ∷ 0 ∷ 0 ∷ 0 ∷ 0 ∷ 0 ∷ []
-
--- a predictor with one block, and its data
-abbrev predictor : List ℕ
-predictor = chainOf 0 2 0 4
-
-abbrev mode : ℕ → List ℕ
-mode m = 0 ∷ m ∷ 0 ∷ 255 ∷ []
+use Rattle.format.proofs.Worked.{Line, _is_, one, blacks, zeros, mode, chainOf, predictor}
 
 -- red residuals 5, 1, 2, 0
 abbrev reds : List ℕ
@@ -57,13 +34,6 @@ spread = three ++ (0 ∷ 0 ∷ 0 ∷ 0 ∷ 3 ∷ 0 ∷ 0 ∷ 255 ∷ [])
 -- a strip of two records with the bytes 228 and 254, in a buffer of five pixels
 abbrev strip : List ℕ
 strip = 0 ∷ 228 ∷ 0 ∷ 255 ∷ 0 ∷ 254 ∷ 0 ∷ 255 ∷ 9 ∷ 9 ∷ 9 ∷ 9 ∷ 9 ∷ 9 ∷ 9 ∷ 9 ∷ 9 ∷ 9 ∷ 9 ∷ 9 ∷ []
-
--- n pixels (0, 0, 0, 255), and as many records (0, 0, 0, 0)
-abbrev blacks : ℕ → List ℕ
-blacks n = written n (λ i. black) []
-
-abbrev zeros : ℕ → List ℕ
-zeros n = written n (λ i. clear) []
 
 -- the middle of three pixels painted, and the records of the new picture
 abbrev middle : List ℕ

@@ -29,4 +29,9 @@ pub mod Steps
 pub mod Calls
 pub mod Retouching
 pub mod Demands
+pub mod Worked
 pub mod Known
+pub mod KnownTransforms
+pub mod KnownRefusals
+pub mod KnownChains
+pub mod KnownRetouches

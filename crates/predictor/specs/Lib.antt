@@ -2,3 +2,4 @@
 pub mod Row
 pub mod Bytewise
 pub mod Ahead
+pub mod Picture

@@ -5,14 +5,12 @@ use pixel::pixel::pixel_at;
 use pixel::pixel::put_pixel;
 use pixel::pixel::subtract_pixels;
 ghost use mathlib.Core.Path.{_≡_};
-ghost use Prim.Native.Nat.{ℕ, _+_, _-_, _*_, _<_, _≤_};
+ghost use Prim.Native.Nat.{_+_, _*_, _<_, _≤_};
 ghost use lib.ListN.{length};
-ghost use Rattle.format.specs.Picture.{Picture, pixels};
-ghost use Rattle.format.specs.Predictor.{residuals};
-ghost use Rattle.pixel.specs.Cells.{pixelCells, run, given};
-ghost use Rattle.pixel.specs.Held.{HoldsRow};
+ghost use Rattle.format.specs.Picture.{pixels};
 ghost use Rattle.format.specs.Sizes.{Sized, Blocked};
-ghost use Rattle.predictor.specs.Row.{leftResidual};
+ghost use Rattle.predictor.specs.Row.{leftResidual, leftLost};
+ghost use Rattle.predictor.specs.Picture.{FirstStored, RowStored};
 
 fn left_residual(row: &[u8], x: usize) -> Pixel
     requires { ⌜ (1 ≤ x) × (4 * x + 4 ≤ length (now row)) ⌝ }
@@ -24,7 +22,7 @@ fn left_residual(row: &[u8], x: usize) -> Pixel
 // The columns of row 0 off the first lose L.
 fn store_left(row: &[u8], out: &mut [u8], width: usize)
     requires { ⌜ (1 ≤ width) × (4 * width ≤ length (now row)) × (4 * width ≤ length (now out)) ⌝ }
-    ensures { λ _. ⌜ now (out .exit) ≡ run pixelCells (given (leftResidual (pixels (now (row .entry))))) 1 (width - 1) (now (out .entry)) ⌝ }
+    ensures { λ _. ⌜ now (out .exit) ≡ leftLost width (now (row .entry)) (now (out .entry)) ⌝ }
 {
     let mut x = 1;
     while x < width {
@@ -37,7 +35,7 @@ fn store_left(row: &[u8], out: &mut [u8], width: usize)
 // Row 0, whatever the blocks: the first pixel loses black.
 fn store_first_row(row: &[u8], out: &mut [u8], width: usize)
     requires { ⌜ (1 ≤ width) × (4 * width ≤ length (now row)) × (4 * width ≤ length (now out)) ⌝ }
-    ensures { λ _. ⌜ ((bits : ℕ) (d f : Picture) → HoldsRow f 0 width (now (row .entry)) → HoldsRow (residuals width bits d f) 0 width (now (out .exit))) ⌝ }
+    ensures { λ _. ⌜ FirstStored width (now (row .entry)) (now (out .exit)) ⌝ }
 {
     let black = Pixel {
         red: 0,
@@ -50,7 +48,8 @@ fn store_first_row(row: &[u8], out: &mut [u8], width: usize)
     store_left(row, out, width);
 }
 
-// Row y, out of `rows`, which holds the row above and then the row. Where y is 0 there is no row above, and the first half of `rows` is not looked at.
+// Row y, out of `rows`, which holds the row above and then the row. Where y is 0 there is no row above, and the first half of
+// `rows` is not looked at.
 pub fn store_row(
     rows: &[u8],
     out: &mut [u8],
@@ -62,7 +61,7 @@ pub fn store_row(
 )
     requires { ⌜ Sized width height × Blocked width height bits (now blocks) × (y < height) ⌝ }
     requires { ⌜ (length (now rows) ≡ 8 * width) × (length (now out) ≡ 4 * width) ⌝ }
-    ensures { λ _. ⌜ ((f : Picture) → (1 ≤ y → HoldsRow f (y - 1) width (now (rows .entry))) → ((x : ℕ) → x < width → pixels (now (rows .entry)) (width + x) ≡ f (y * width + x)) → HoldsRow (residuals width bits (pixels (now (blocks .entry))) f) y width (now (out .exit))) ⌝ }
+    ensures { λ _. ⌜ RowStored width bits (now (blocks .entry)) y (now (rows .entry)) (now (out .exit)) ⌝ }
 {
     if y == 0 {
         let a = 4 * width;

@@ -1,6 +1,7 @@
-// Mode 1 rebuilt in place, eight pixels a turn. `rows` and `w` are as in `segment`; no row above is read, so that it serves row 0 too. A pixel is the one
-// two places before it, plus its residual and the residual between them. These two are added a turn ahead: then a pixel waits for one addition since the
-// pixel two places before it. Added in the same turn, the compiler adds them to that pixel one after the other.
+// Mode 1 rebuilt in place, eight pixels a turn. `rows` and `w` are as in `segment`; no row above is read, so that it serves
+// row 0 too. A pixel is the one two places before it, plus its residual and the residual between them. These two are added a
+// turn ahead: then a pixel waits for one addition since the pixel two places before it. Added in the same turn, the compiler
+// adds them to that pixel one after the other.
 use format::Pixel;
 use pixel::pixel::add_pixels;
 use pixel::pixel::pixel_at;
@@ -10,8 +11,8 @@ ghost use Prim.Native.Nat.{_+_, _-_, _*_, _≤_};
 ghost use lib.ListN.{length};
 ghost use Rattle.format.specs.Picture.{pixels};
 ghost use Rattle.pixel.specs.Cells.{pixelCells, run};
-ghost use Rattle.predictor.specs.Row.{around, gains};
-ghost use Rattle.predictor.specs.Ahead.{summed, Ahead, Prepared, Sums};
+ghost use Rattle.predictor.specs.Row.{around, gains, gainedBy};
+ghost use Rattle.predictor.specs.Ahead.{summed, Ahead, FirstAhead, FourGained, Prepared, Sums};
 
 // Four pixels side by side.
 struct Four {
@@ -41,8 +42,8 @@ fn sums_at(rows: &[u8], i: usize) -> Four
     }
 }
 
-// What a turn at pixel i starts from: the four pixels before it, and the sums of eight from it. The last two of the four are read; carried by
-// themselves they are not one vector to the compiler, and long segments take over four times as long.
+// What a turn at pixel i starts from: the four pixels before it, and the sums of eight from it. The last two of the four are
+// read; carried by themselves they are not one vector to the compiler.
 struct Eight {
     before: Four,
     sums: Four,
@@ -52,7 +53,7 @@ struct Eight {
 // What the first four gain: the left neighbor of the first is rebuilt, and serves as the two pixels before them.
 fn first_sums(rows: &[u8], i: usize) -> Four
     requires { ⌜ 4 * i + 16 ≤ length (now rows) ⌝ }
-    ensures { λ r. ⌜ Ahead (pixels (now (rows .entry))) i (pixels (now (rows .entry)) (i - 1)) (pixels (now (rows .entry)) (i - 1)) r ⌝ }
+    ensures { λ r. ⌜ FirstAhead (pixels (now (rows .entry))) i r ⌝ }
 {
     Four {
         a: pixel_at(rows, i),
@@ -83,7 +84,7 @@ fn first_eight(rows: &[u8], i: usize) -> Eight
 fn gain_four(rows: &mut [u8], w: usize, i: usize, before: Four, sums: Four) -> Four
     requires { ⌜ 4 * i + 16 ≤ length (now rows) ⌝ }
     requires { ⌜ Ahead (pixels (now rows)) i (before .c) (before .d) sums ⌝ }
-    ensures { λ r. ⌜ (now (rows .exit) ≡ run pixelCells (gains (around 1 w)) i 4 (now (rows .entry))) × (r .c ≡ pixels (now (rows .exit)) (i + 2)) × (r .d ≡ pixels (now (rows .exit)) (i + 3)) ⌝ }
+    ensures { λ r. ⌜ FourGained w i (now (rows .entry)) (now (rows .exit)) r ⌝ }
 {
     let a = add_pixels(before.c, sums.a);
     let b = add_pixels(before.d, sums.b);
@@ -96,11 +97,13 @@ fn gain_four(rows: &mut [u8], w: usize, i: usize, before: Four, sums: Four) -> F
     Four { a, b, c, d }
 }
 
-// Eight pixels from i gain theirs; what the next turn starts from is returned. Its sums are read first, since one of them has a residual that is replaced.
+// Eight pixels from i gain theirs; what the next turn starts from is returned. Its sums are read first, since one of them has
+// a residual that is replaced.
 fn gain_eight(rows: &mut [u8], w: usize, i: usize, eight: Eight) -> Eight
     requires { ⌜ 4 * i + 64 ≤ length (now rows) ⌝ }
     requires { ⌜ Prepared (pixels (now rows)) i eight ⌝ }
-    ensures { λ r. ⌜ (now (rows .exit) ≡ run pixelCells (gains (around 1 w)) i 8 (now (rows .entry))) × Prepared (pixels (now (rows .exit))) (i + 8) r ⌝ }
+    ensures { λ r. ⌜ now (rows .exit) ≡ run pixelCells (gains (around 1 w)) i 8 (now (rows .entry)) ⌝ }
+    ensures { λ r. ⌜ Prepared (pixels (now (rows .exit))) (i + 8) r ⌝ }
 {
     let sums = sums_at(rows, i + 8);
     let more = sums_at(rows, i + 12);
@@ -109,11 +112,11 @@ fn gain_eight(rows: &mut [u8], w: usize, i: usize, eight: Eight) -> Eight
     Eight { before, sums, more }
 }
 
-// The pixels from `from` on gain by eights as long as the sums of the eight after them can be made; where that ended is returned. Few pixels are not
-// worth the start.
+// The pixels from `from` on gain by eights as long as the sums of the eight after them can be made; where that ended is
+// returned. Few pixels are not worth the start.
 fn gain_eights(rows: &mut [u8], w: usize, from: usize, to: usize) -> usize
     requires { ⌜ (1 ≤ from) × (from ≤ to) × (4 * to ≤ length (now rows)) ⌝ }
-    ensures { λ r. ⌜ (from ≤ r) × (r ≤ to) × (now (rows .exit) ≡ run pixelCells (gains (around 1 w)) from (r - from) (now (rows .entry))) ⌝ }
+    ensures { λ r. ⌜ (from ≤ r) × (r ≤ to) × (now (rows .exit) ≡ gainedBy (around 1 w) from r (now (rows .entry))) ⌝ }
 {
     if to < from + 32 {
         return from;
@@ -138,7 +141,7 @@ fn gain_1(rows: &[u8], w: usize, i: usize, left: Pixel) -> Pixel
 // The pixels that no eights are made of gain one after the other.
 pub fn apply_predictor_transform_1(rows: &mut [u8], w: usize, from: usize, to: usize)
     requires { ⌜ (1 ≤ from) × (from ≤ to) × (4 * to ≤ length (now rows)) ⌝ }
-    ensures { λ _. ⌜ now (rows .exit) ≡ run pixelCells (gains (around 1 w)) from (to - from) (now (rows .entry)) ⌝ }
+    ensures { λ _. ⌜ now (rows .exit) ≡ gainedBy (around 1 w) from to (now (rows .entry)) ⌝ }
 {
     let mut i = gain_eights(rows, w, from, to);
     let mut left = pixel_at(rows, i - 1);

@@ -1,4 +1,4 @@
-// The predictor transform: a row at a time, and whole pictures.
+// The predictor transform, a row at a time.
 pub mod forward;
 pub mod inverse;
 mod left;

@@ -1,5 +1,6 @@
-// Segments of a row stored: `rows` holds the row above and then the row, `w` pixels each; the columns from `from` up to `to` of `out` become the row's
-// residuals. What is read is never written, so loops over bytes are vectorized in every mode that goes channel by channel.
+// Segments of a row stored: `rows` holds the row above and then the row, `w` pixels each; the columns from `from` up to `to` of
+// `out` become the row's residuals. What is read is never written, so loops over bytes are vectorized in every mode that goes
+// channel by channel.
 use format::Pixel;
 use pixel::byte::average2;
 use pixel::byte::average4;
@@ -16,9 +17,9 @@ ghost use mathlib.Core.Path.{_≡_};
 ghost use Prim.Native.Nat.{_+_, _-_, _*_, _<_, _≤_};
 ghost use lib.ListN.{length};
 ghost use Rattle.format.specs.Picture.{byteAt, pixels};
-ghost use Rattle.pixel.specs.Cells.{byteCells, pixelCells, run, given};
-ghost use Rattle.predictor.specs.Row.{around, residual, Columns};
+ghost use Rattle.predictor.specs.Row.{around, residual, lostBy, Columns};
 ghost use Rattle.predictor.specs.Bytewise.{predictByte as predictByteOf, byteResidual as byteResidualOf};
+ghost use Rattle.predictor.specs.Bytewise.{bytesLost, ByteColumns};
 
 fn predict_byte(mode: u8, l: u8, t: u8, tr: u8, tl: u8) -> u8
     ensures { λ r. ⌜ r ≡ predictByteOf mode l t tr tl ⌝ }
@@ -53,10 +54,11 @@ fn byte_residual(rows: &[u8], mode: u8, stride: usize, i: usize) -> u8
     wrapping_sub_u8(rows[stride + i], predict_byte(mode, l, t, tr, tl))
 }
 
-// Bytes from `from` up to `to`. Each caller but the last arm of `store_segment` passes its mode as a constant, so that the compiler makes a loop for that mode.
+// Bytes from `from` up to `to`. Each caller but the last arm of `store_segment` passes its mode as a constant, so that the
+// compiler makes a loop for that mode.
 fn store_bytes(rows: &[u8], out: &mut [u8], mode: u8, stride: usize, from: usize, to: usize)
-    requires { ⌜ (4 ≤ from) × (from ≤ to) × (to ≤ stride) × (length (now rows) ≡ stride + stride) × (to ≤ length (now out)) ⌝ }
-    ensures { λ _. ⌜ now (out .exit) ≡ run byteCells (given (byteResidualOf mode stride (byteAt (now (rows .entry))))) from (to - from) (now (out .entry)) ⌝ }
+    requires { ⌜ ByteColumns stride from to (now rows) (now out) ⌝ }
+    ensures { λ _. ⌜ now (out .exit) ≡ bytesLost mode stride (now (rows .entry)) from to (now (out .entry)) ⌝ }
 {
     let mut i = from;
     while i < to {
@@ -66,85 +68,85 @@ fn store_bytes(rows: &[u8], out: &mut [u8], mode: u8, stride: usize, from: usize
 }
 
 fn store_1(rows: &[u8], out: &mut [u8], stride: usize, from: usize, to: usize)
-    requires { ⌜ (4 ≤ from) × (from ≤ to) × (to ≤ stride) × (length (now rows) ≡ stride + stride) × (to ≤ length (now out)) ⌝ }
-    ensures { λ _. ⌜ now (out .exit) ≡ run byteCells (given (byteResidualOf 1 stride (byteAt (now (rows .entry))))) from (to - from) (now (out .entry)) ⌝ }
+    requires { ⌜ ByteColumns stride from to (now rows) (now out) ⌝ }
+    ensures { λ _. ⌜ now (out .exit) ≡ bytesLost 1 stride (now (rows .entry)) from to (now (out .entry)) ⌝ }
 {
     store_bytes(rows, out, 1, stride, from, to);
 }
 
 fn store_2(rows: &[u8], out: &mut [u8], stride: usize, from: usize, to: usize)
-    requires { ⌜ (4 ≤ from) × (from ≤ to) × (to ≤ stride) × (length (now rows) ≡ stride + stride) × (to ≤ length (now out)) ⌝ }
-    ensures { λ _. ⌜ now (out .exit) ≡ run byteCells (given (byteResidualOf 2 stride (byteAt (now (rows .entry))))) from (to - from) (now (out .entry)) ⌝ }
+    requires { ⌜ ByteColumns stride from to (now rows) (now out) ⌝ }
+    ensures { λ _. ⌜ now (out .exit) ≡ bytesLost 2 stride (now (rows .entry)) from to (now (out .entry)) ⌝ }
 {
     store_bytes(rows, out, 2, stride, from, to);
 }
 
 fn store_3(rows: &[u8], out: &mut [u8], stride: usize, from: usize, to: usize)
-    requires { ⌜ (4 ≤ from) × (from ≤ to) × (to ≤ stride) × (length (now rows) ≡ stride + stride) × (to ≤ length (now out)) ⌝ }
-    ensures { λ _. ⌜ now (out .exit) ≡ run byteCells (given (byteResidualOf 3 stride (byteAt (now (rows .entry))))) from (to - from) (now (out .entry)) ⌝ }
+    requires { ⌜ ByteColumns stride from to (now rows) (now out) ⌝ }
+    ensures { λ _. ⌜ now (out .exit) ≡ bytesLost 3 stride (now (rows .entry)) from to (now (out .entry)) ⌝ }
 {
     store_bytes(rows, out, 3, stride, from, to);
 }
 
 fn store_4(rows: &[u8], out: &mut [u8], stride: usize, from: usize, to: usize)
-    requires { ⌜ (4 ≤ from) × (from ≤ to) × (to ≤ stride) × (length (now rows) ≡ stride + stride) × (to ≤ length (now out)) ⌝ }
-    ensures { λ _. ⌜ now (out .exit) ≡ run byteCells (given (byteResidualOf 4 stride (byteAt (now (rows .entry))))) from (to - from) (now (out .entry)) ⌝ }
+    requires { ⌜ ByteColumns stride from to (now rows) (now out) ⌝ }
+    ensures { λ _. ⌜ now (out .exit) ≡ bytesLost 4 stride (now (rows .entry)) from to (now (out .entry)) ⌝ }
 {
     store_bytes(rows, out, 4, stride, from, to);
 }
 
 fn store_5(rows: &[u8], out: &mut [u8], stride: usize, from: usize, to: usize)
-    requires { ⌜ (4 ≤ from) × (from ≤ to) × (to ≤ stride) × (length (now rows) ≡ stride + stride) × (to ≤ length (now out)) ⌝ }
-    ensures { λ _. ⌜ now (out .exit) ≡ run byteCells (given (byteResidualOf 5 stride (byteAt (now (rows .entry))))) from (to - from) (now (out .entry)) ⌝ }
+    requires { ⌜ ByteColumns stride from to (now rows) (now out) ⌝ }
+    ensures { λ _. ⌜ now (out .exit) ≡ bytesLost 5 stride (now (rows .entry)) from to (now (out .entry)) ⌝ }
 {
     store_bytes(rows, out, 5, stride, from, to);
 }
 
 fn store_6(rows: &[u8], out: &mut [u8], stride: usize, from: usize, to: usize)
-    requires { ⌜ (4 ≤ from) × (from ≤ to) × (to ≤ stride) × (length (now rows) ≡ stride + stride) × (to ≤ length (now out)) ⌝ }
-    ensures { λ _. ⌜ now (out .exit) ≡ run byteCells (given (byteResidualOf 6 stride (byteAt (now (rows .entry))))) from (to - from) (now (out .entry)) ⌝ }
+    requires { ⌜ ByteColumns stride from to (now rows) (now out) ⌝ }
+    ensures { λ _. ⌜ now (out .exit) ≡ bytesLost 6 stride (now (rows .entry)) from to (now (out .entry)) ⌝ }
 {
     store_bytes(rows, out, 6, stride, from, to);
 }
 
 fn store_7(rows: &[u8], out: &mut [u8], stride: usize, from: usize, to: usize)
-    requires { ⌜ (4 ≤ from) × (from ≤ to) × (to ≤ stride) × (length (now rows) ≡ stride + stride) × (to ≤ length (now out)) ⌝ }
-    ensures { λ _. ⌜ now (out .exit) ≡ run byteCells (given (byteResidualOf 7 stride (byteAt (now (rows .entry))))) from (to - from) (now (out .entry)) ⌝ }
+    requires { ⌜ ByteColumns stride from to (now rows) (now out) ⌝ }
+    ensures { λ _. ⌜ now (out .exit) ≡ bytesLost 7 stride (now (rows .entry)) from to (now (out .entry)) ⌝ }
 {
     store_bytes(rows, out, 7, stride, from, to);
 }
 
 fn store_8(rows: &[u8], out: &mut [u8], stride: usize, from: usize, to: usize)
-    requires { ⌜ (4 ≤ from) × (from ≤ to) × (to ≤ stride) × (length (now rows) ≡ stride + stride) × (to ≤ length (now out)) ⌝ }
-    ensures { λ _. ⌜ now (out .exit) ≡ run byteCells (given (byteResidualOf 8 stride (byteAt (now (rows .entry))))) from (to - from) (now (out .entry)) ⌝ }
+    requires { ⌜ ByteColumns stride from to (now rows) (now out) ⌝ }
+    ensures { λ _. ⌜ now (out .exit) ≡ bytesLost 8 stride (now (rows .entry)) from to (now (out .entry)) ⌝ }
 {
     store_bytes(rows, out, 8, stride, from, to);
 }
 
 fn store_9(rows: &[u8], out: &mut [u8], stride: usize, from: usize, to: usize)
-    requires { ⌜ (4 ≤ from) × (from ≤ to) × (to ≤ stride) × (length (now rows) ≡ stride + stride) × (to ≤ length (now out)) ⌝ }
-    ensures { λ _. ⌜ now (out .exit) ≡ run byteCells (given (byteResidualOf 9 stride (byteAt (now (rows .entry))))) from (to - from) (now (out .entry)) ⌝ }
+    requires { ⌜ ByteColumns stride from to (now rows) (now out) ⌝ }
+    ensures { λ _. ⌜ now (out .exit) ≡ bytesLost 9 stride (now (rows .entry)) from to (now (out .entry)) ⌝ }
 {
     store_bytes(rows, out, 9, stride, from, to);
 }
 
 fn store_10(rows: &[u8], out: &mut [u8], stride: usize, from: usize, to: usize)
-    requires { ⌜ (4 ≤ from) × (from ≤ to) × (to ≤ stride) × (length (now rows) ≡ stride + stride) × (to ≤ length (now out)) ⌝ }
-    ensures { λ _. ⌜ now (out .exit) ≡ run byteCells (given (byteResidualOf 10 stride (byteAt (now (rows .entry))))) from (to - from) (now (out .entry)) ⌝ }
+    requires { ⌜ ByteColumns stride from to (now rows) (now out) ⌝ }
+    ensures { λ _. ⌜ now (out .exit) ≡ bytesLost 10 stride (now (rows .entry)) from to (now (out .entry)) ⌝ }
 {
     store_bytes(rows, out, 10, stride, from, to);
 }
 
 fn store_12(rows: &[u8], out: &mut [u8], stride: usize, from: usize, to: usize)
-    requires { ⌜ (4 ≤ from) × (from ≤ to) × (to ≤ stride) × (length (now rows) ≡ stride + stride) × (to ≤ length (now out)) ⌝ }
-    ensures { λ _. ⌜ now (out .exit) ≡ run byteCells (given (byteResidualOf 12 stride (byteAt (now (rows .entry))))) from (to - from) (now (out .entry)) ⌝ }
+    requires { ⌜ ByteColumns stride from to (now rows) (now out) ⌝ }
+    ensures { λ _. ⌜ now (out .exit) ≡ bytesLost 12 stride (now (rows .entry)) from to (now (out .entry)) ⌝ }
 {
     store_bytes(rows, out, 12, stride, from, to);
 }
 
 fn store_13(rows: &[u8], out: &mut [u8], stride: usize, from: usize, to: usize)
-    requires { ⌜ (4 ≤ from) × (from ≤ to) × (to ≤ stride) × (length (now rows) ≡ stride + stride) × (to ≤ length (now out)) ⌝ }
-    ensures { λ _. ⌜ now (out .exit) ≡ run byteCells (given (byteResidualOf 13 stride (byteAt (now (rows .entry))))) from (to - from) (now (out .entry)) ⌝ }
+    requires { ⌜ ByteColumns stride from to (now rows) (now out) ⌝ }
+    ensures { λ _. ⌜ now (out .exit) ≡ bytesLost 13 stride (now (rows .entry)) from to (now (out .entry)) ⌝ }
 {
     store_bytes(rows, out, 13, stride, from, to);
 }
@@ -165,7 +167,7 @@ fn residual_0(rows: &[u8], w: usize, x: usize) -> Pixel
 
 pub fn store_0(rows: &[u8], out: &mut [u8], w: usize, from: usize, to: usize)
     requires { ⌜ (from ≤ to) × (4 * (w + to) ≤ length (now rows)) × (4 * to ≤ length (now out)) ⌝ }
-    ensures { λ _. ⌜ now (out .exit) ≡ run pixelCells (given (residual (around 0 w) w (pixels (now (rows .entry))))) from (to - from) (now (out .entry)) ⌝ }
+    ensures { λ _. ⌜ now (out .exit) ≡ lostBy (around 0 w) w (now (rows .entry)) from to (now (out .entry)) ⌝ }
 {
     let mut x = from;
     while x < to {
@@ -188,7 +190,7 @@ fn residual_11(rows: &[u8], w: usize, x: usize) -> Pixel
 
 fn store_11(rows: &[u8], out: &mut [u8], w: usize, from: usize, to: usize)
     requires { ⌜ Columns w from to (now rows) (now out) ⌝ }
-    ensures { λ _. ⌜ now (out .exit) ≡ run pixelCells (given (residual (around 11 w) w (pixels (now (rows .entry))))) from (to - from) (now (out .entry)) ⌝ }
+    ensures { λ _. ⌜ now (out .exit) ≡ lostBy (around 11 w) w (now (rows .entry)) from to (now (out .entry)) ⌝ }
 {
     let mut x = from;
     while x < to {
@@ -201,7 +203,7 @@ fn store_11(rows: &[u8], out: &mut [u8], w: usize, from: usize, to: usize)
 // The columns from `from` up to `to`, by their mode.
 pub fn store_segment(rows: &[u8], out: &mut [u8], mode: u8, w: usize, from: usize, to: usize)
     requires { ⌜ Columns w from to (now rows) (now out) ⌝ }
-    ensures { λ _. ⌜ now (out .exit) ≡ run pixelCells (given (residual (around mode w) w (pixels (now (rows .entry))))) from (to - from) (now (out .entry)) ⌝ }
+    ensures { λ _. ⌜ now (out .exit) ≡ lostBy (around mode w) w (now (rows .entry)) from to (now (out .entry)) ⌝ }
 {
     let s = 4 * w;
     let a = 4 * from;

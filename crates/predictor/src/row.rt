@@ -1,4 +1,5 @@
-// A row off the first: `rows` is the part of the picture that holds the row above and then the row, and `blocks` the data pixels of the row's blocks.
+// A row off the first: `rows` is the part of the picture that holds the row above and then the row, and `blocks` the data
+// pixels of the row's blocks.
 use crate::residual::store_segment;
 use crate::segment::rebuild_segment;
 use pixel::block::block_end;
@@ -10,9 +11,8 @@ ghost use mathlib.Core.Path.{_≡_};
 ghost use Prim.Native.Nat.{_+_, _-_, _*_, _/_, _^_, _<_, _≤_};
 ghost use lib.ListN.{length};
 ghost use Rattle.format.specs.Picture.{pixels};
-ghost use Rattle.pixel.specs.Cells.{pixelCells, run, given};
 ghost use Rattle.pixel.specs.Blocks.{BlockedRow, BlockEnd};
-ghost use Rattle.predictor.specs.Row.{gains, residual, rowPredicted};
+ghost use Rattle.predictor.specs.Row.{columnsGained, rowGained, columnsLost, rowLost};
 
 // The mode of column x.
 pub fn mode_at(blocks: &[u8], width: usize, bits: u32, x: usize) -> u8
@@ -28,7 +28,7 @@ fn rebuild_block(rows: &mut [u8], width: usize, bits: u32, blocks: &[u8], x: usi
     requires { ⌜ BlockedRow width bits (now blocks) ⌝ }
     requires { ⌜ (length (now rows) ≡ 8 * width) × (1 ≤ x) × (x < width) ⌝ }
     ensures { λ r. ⌜ BlockEnd width bits x r ⌝ }
-    ensures { λ r. ⌜ now (rows .exit) ≡ run pixelCells (gains (rowPredicted width bits (pixels (now (blocks .entry))))) (width + x) (width + r - (width + x)) (now (rows .entry)) ⌝ }
+    ensures { λ r. ⌜ now (rows .exit) ≡ columnsGained width bits (now (blocks .entry)) x r (now (rows .entry)) ⌝ }
 {
     let e = block_end(x, bits, width);
     let mode = mode_at(blocks, width, bits, x);
@@ -40,7 +40,7 @@ fn rebuild_block(rows: &mut [u8], width: usize, bits: u32, blocks: &[u8], x: usi
 pub fn rebuild_row(rows: &mut [u8], width: usize, bits: u32, blocks: &[u8])
     requires { ⌜ BlockedRow width bits (now blocks) ⌝ }
     requires { ⌜ length (now rows) ≡ 8 * width ⌝ }
-    ensures { λ _. ⌜ now (rows .exit) ≡ run pixelCells (gains (rowPredicted width bits (pixels (now (blocks .entry))))) width width (now (rows .entry)) ⌝ }
+    ensures { λ _. ⌜ now (rows .exit) ≡ rowGained width bits (now (blocks .entry)) (now (rows .entry)) ⌝ }
 {
     let first = add_pixels(pixel_at(rows, width), pixel_at(rows, 0));
     put_pixel(rows, width, first);
@@ -62,7 +62,7 @@ fn store_block(
     requires { ⌜ BlockedRow width bits (now blocks) ⌝ }
     requires { ⌜ (length (now rows) ≡ 8 * width) × (length (now out) ≡ 4 * width) × (1 ≤ x) × (x < width) ⌝ }
     ensures { λ r. ⌜ BlockEnd width bits x r ⌝ }
-    ensures { λ r. ⌜ now (out .exit) ≡ run pixelCells (given (residual (rowPredicted width bits (pixels (now (blocks .entry)))) width (pixels (now (rows .entry))))) x (r - x) (now (out .entry)) ⌝ }
+    ensures { λ r. ⌜ now (out .exit) ≡ columnsLost width bits (now (blocks .entry)) (now (rows .entry)) x r (now (out .entry)) ⌝ }
 {
     let e = block_end(x, bits, width);
     let mode = mode_at(blocks, width, bits, x);
@@ -74,7 +74,7 @@ fn store_block(
 pub fn store_row(rows: &[u8], out: &mut [u8], width: usize, bits: u32, blocks: &[u8])
     requires { ⌜ BlockedRow width bits (now blocks) ⌝ }
     requires { ⌜ (length (now rows) ≡ 8 * width) × (length (now out) ≡ 4 * width) ⌝ }
-    ensures { λ _. ⌜ now (out .exit) ≡ run pixelCells (given (residual (rowPredicted width bits (pixels (now (blocks .entry)))) width (pixels (now (rows .entry))))) 0 width (now (out .entry)) ⌝ }
+    ensures { λ _. ⌜ now (out .exit) ≡ rowLost width bits (now (blocks .entry)) (now (rows .entry)) (now (out .entry)) ⌝ }
 {
     let first = subtract_pixels(pixel_at(rows, width), pixel_at(rows, 0));
     put_pixel(out, 0, first);

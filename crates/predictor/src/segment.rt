@@ -1,5 +1,6 @@
-// Segments of a row rebuilt in place, a loop for each mode so that the mode is not tested for each pixel. `rows` holds the row above and then the row,
-// `w` pixels each; the pixels from `from` up to `to` gain their predictions. Mode 0 reads no row above, and serves row 0 too.
+// Segments of a row rebuilt in place, a loop for each mode so that the mode is not tested for each pixel. `rows` holds the row
+// above and then the row, `w` pixels each; the pixels from `from` up to `to` gain their predictions. Mode 0 reads no row above,
+// and serves row 0 too.
 use crate::left::apply_predictor_transform_1;
 use crate::select::apply_predictor_transform_11;
 use format::Pixel;
@@ -19,9 +20,8 @@ ghost use Prim.Native.Nat.{_+_, _-_, _*_, _<_, _≤_};
 ghost use lib.ListN.{length};
 ghost use Rattle.format.specs.Byte.{avg};
 ghost use Rattle.format.specs.Picture.{byteAt, pixels};
-ghost use Rattle.pixel.specs.Cells.{byteCells, pixelCells, run};
-ghost use Rattle.predictor.specs.Row.{around, gains, Inside, Segment};
-ghost use Rattle.predictor.specs.Bytewise.{first, bytewise};
+ghost use Rattle.predictor.specs.Row.{around, gains, gainedBy, Inside, Segment};
+ghost use Rattle.predictor.specs.Bytewise.{first, bytewise, bytesGained};
 
 fn gain_0(rows: &[u8], w: usize, i: usize) -> Pixel
     requires { ⌜ 4 * i + 4 ≤ length (now rows) ⌝ }
@@ -38,7 +38,7 @@ fn gain_0(rows: &[u8], w: usize, i: usize) -> Pixel
 
 pub fn apply_predictor_transform_0(rows: &mut [u8], w: usize, from: usize, to: usize)
     requires { ⌜ (from ≤ to) × (4 * to ≤ length (now rows)) ⌝ }
-    ensures { λ _. ⌜ now (rows .exit) ≡ run pixelCells (gains (around 0 w)) from (to - from) (now (rows .entry)) ⌝ }
+    ensures { λ _. ⌜ now (rows .exit) ≡ gainedBy (around 0 w) from to (now (rows .entry)) ⌝ }
 {
     let mut i = from;
     while i < to {
@@ -55,10 +55,11 @@ fn byte_back(rows: &[u8], back: usize, i: usize) -> u8
     wrapping_add_u8(rows[i], rows[i - back])
 }
 
-// Each byte gains the byte that stands `back` bytes before it: a loop over bytes is vectorized where no byte gains one that it rebuilt.
+// Each byte gains the byte that stands `back` bytes before it: a loop over bytes is vectorized where no byte gains one that it
+// rebuilt.
 fn add_back(rows: &mut [u8], back: usize, from: usize, to: usize)
     requires { ⌜ (back ≤ from) × (from ≤ to) × (to ≤ length (now rows)) ⌝ }
-    ensures { λ _. ⌜ now (rows .exit) ≡ run byteCells (bytewise first back back) from (to - from) (now (rows .entry)) ⌝ }
+    ensures { λ _. ⌜ now (rows .exit) ≡ bytesGained first back back from to (now (rows .entry)) ⌝ }
 {
     let mut i = from;
     while i < to {
@@ -77,7 +78,7 @@ fn byte_average(rows: &[u8], back: usize, other: usize, i: usize) -> u8
 // Each byte gains the average of two bytes before it.
 fn add_average(rows: &mut [u8], back: usize, other: usize, from: usize, to: usize)
     requires { ⌜ (back ≤ from) × (other ≤ from) × (from ≤ to) × (to ≤ length (now rows)) ⌝ }
-    ensures { λ _. ⌜ now (rows .exit) ≡ run byteCells (bytewise avg back other) from (to - from) (now (rows .entry)) ⌝ }
+    ensures { λ _. ⌜ now (rows .exit) ≡ bytesGained avg back other from to (now (rows .entry)) ⌝ }
 {
     let mut i = from;
     while i < to {
@@ -88,35 +89,35 @@ fn add_average(rows: &mut [u8], back: usize, other: usize, from: usize, to: usiz
 
 fn apply_predictor_transform_2(rows: &mut [u8], w: usize, from: usize, to: usize)
     requires { ⌜ Segment w from to (now rows) ⌝ }
-    ensures { λ _. ⌜ now (rows .exit) ≡ run pixelCells (gains (around 2 w)) from (to - from) (now (rows .entry)) ⌝ }
+    ensures { λ _. ⌜ now (rows .exit) ≡ gainedBy (around 2 w) from to (now (rows .entry)) ⌝ }
 {
     add_back(rows, 4 * w, 4 * from, 4 * to);
 }
 
 fn apply_predictor_transform_3(rows: &mut [u8], w: usize, from: usize, to: usize)
     requires { ⌜ Segment w from to (now rows) ⌝ }
-    ensures { λ _. ⌜ now (rows .exit) ≡ run pixelCells (gains (around 3 w)) from (to - from) (now (rows .entry)) ⌝ }
+    ensures { λ _. ⌜ now (rows .exit) ≡ gainedBy (around 3 w) from to (now (rows .entry)) ⌝ }
 {
     add_back(rows, 4 * (w - 1), 4 * from, 4 * to);
 }
 
 fn apply_predictor_transform_4(rows: &mut [u8], w: usize, from: usize, to: usize)
     requires { ⌜ Segment w from to (now rows) ⌝ }
-    ensures { λ _. ⌜ now (rows .exit) ≡ run pixelCells (gains (around 4 w)) from (to - from) (now (rows .entry)) ⌝ }
+    ensures { λ _. ⌜ now (rows .exit) ≡ gainedBy (around 4 w) from to (now (rows .entry)) ⌝ }
 {
     add_back(rows, 4 * (w + 1), 4 * from, 4 * to);
 }
 
 fn apply_predictor_transform_8(rows: &mut [u8], w: usize, from: usize, to: usize)
     requires { ⌜ Segment w from to (now rows) ⌝ }
-    ensures { λ _. ⌜ now (rows .exit) ≡ run pixelCells (gains (around 8 w)) from (to - from) (now (rows .entry)) ⌝ }
+    ensures { λ _. ⌜ now (rows .exit) ≡ gainedBy (around 8 w) from to (now (rows .entry)) ⌝ }
 {
     add_average(rows, 4 * (w + 1), 4 * w, 4 * from, 4 * to);
 }
 
 fn apply_predictor_transform_9(rows: &mut [u8], w: usize, from: usize, to: usize)
     requires { ⌜ Segment w from to (now rows) ⌝ }
-    ensures { λ _. ⌜ now (rows .exit) ≡ run pixelCells (gains (around 9 w)) from (to - from) (now (rows .entry)) ⌝ }
+    ensures { λ _. ⌜ now (rows .exit) ≡ gainedBy (around 9 w) from to (now (rows .entry)) ⌝ }
 {
     add_average(rows, 4 * w, 4 * (w - 1), 4 * from, 4 * to);
 }
@@ -136,7 +137,7 @@ fn gain_5(rows: &[u8], w: usize, i: usize, left: Pixel) -> Pixel
 
 fn apply_predictor_transform_5(rows: &mut [u8], w: usize, from: usize, to: usize)
     requires { ⌜ Segment w from to (now rows) ⌝ }
-    ensures { λ _. ⌜ now (rows .exit) ≡ run pixelCells (gains (around 5 w)) from (to - from) (now (rows .entry)) ⌝ }
+    ensures { λ _. ⌜ now (rows .exit) ≡ gainedBy (around 5 w) from to (now (rows .entry)) ⌝ }
 {
     let mut left = pixel_at(rows, from - 1);
     let mut i = from;
@@ -158,7 +159,7 @@ fn gain_6(rows: &[u8], w: usize, i: usize, left: Pixel) -> Pixel
 
 fn apply_predictor_transform_6(rows: &mut [u8], w: usize, from: usize, to: usize)
     requires { ⌜ Segment w from to (now rows) ⌝ }
-    ensures { λ _. ⌜ now (rows .exit) ≡ run pixelCells (gains (around 6 w)) from (to - from) (now (rows .entry)) ⌝ }
+    ensures { λ _. ⌜ now (rows .exit) ≡ gainedBy (around 6 w) from to (now (rows .entry)) ⌝ }
 {
     let mut left = pixel_at(rows, from - 1);
     let mut i = from;
@@ -180,7 +181,7 @@ fn gain_7(rows: &[u8], w: usize, i: usize, left: Pixel) -> Pixel
 
 fn apply_predictor_transform_7(rows: &mut [u8], w: usize, from: usize, to: usize)
     requires { ⌜ Segment w from to (now rows) ⌝ }
-    ensures { λ _. ⌜ now (rows .exit) ≡ run pixelCells (gains (around 7 w)) from (to - from) (now (rows .entry)) ⌝ }
+    ensures { λ _. ⌜ now (rows .exit) ≡ gainedBy (around 7 w) from to (now (rows .entry)) ⌝ }
 {
     let mut left = pixel_at(rows, from - 1);
     let mut i = from;
@@ -204,7 +205,7 @@ fn gain_10(rows: &[u8], w: usize, i: usize, left: Pixel) -> Pixel
 
 fn apply_predictor_transform_10(rows: &mut [u8], w: usize, from: usize, to: usize)
     requires { ⌜ Segment w from to (now rows) ⌝ }
-    ensures { λ _. ⌜ now (rows .exit) ≡ run pixelCells (gains (around 10 w)) from (to - from) (now (rows .entry)) ⌝ }
+    ensures { λ _. ⌜ now (rows .exit) ≡ gainedBy (around 10 w) from to (now (rows .entry)) ⌝ }
 {
     let mut left = pixel_at(rows, from - 1);
     let mut i = from;
@@ -227,7 +228,7 @@ fn gain_12(rows: &[u8], w: usize, i: usize, left: Pixel) -> Pixel
 
 fn apply_predictor_transform_12(rows: &mut [u8], w: usize, from: usize, to: usize)
     requires { ⌜ Segment w from to (now rows) ⌝ }
-    ensures { λ _. ⌜ now (rows .exit) ≡ run pixelCells (gains (around 12 w)) from (to - from) (now (rows .entry)) ⌝ }
+    ensures { λ _. ⌜ now (rows .exit) ≡ gainedBy (around 12 w) from to (now (rows .entry)) ⌝ }
 {
     let mut left = pixel_at(rows, from - 1);
     let mut i = from;
@@ -250,7 +251,7 @@ fn gain_13(rows: &[u8], w: usize, i: usize, left: Pixel) -> Pixel
 
 fn apply_predictor_transform_13(rows: &mut [u8], w: usize, from: usize, to: usize)
     requires { ⌜ Segment w from to (now rows) ⌝ }
-    ensures { λ _. ⌜ now (rows .exit) ≡ run pixelCells (gains (around 13 w)) from (to - from) (now (rows .entry)) ⌝ }
+    ensures { λ _. ⌜ now (rows .exit) ≡ gainedBy (around 13 w) from to (now (rows .entry)) ⌝ }
 {
     let mut left = pixel_at(rows, from - 1);
     let mut i = from;
@@ -264,7 +265,7 @@ fn apply_predictor_transform_13(rows: &mut [u8], w: usize, from: usize, to: usiz
 // The pixels from `from` up to `to`, by their mode; modes 14 to 255 predict zero, which changes nothing.
 pub fn rebuild_segment(rows: &mut [u8], mode: u8, w: usize, from: usize, to: usize)
     requires { ⌜ Segment w from to (now rows) ⌝ }
-    ensures { λ _. ⌜ now (rows .exit) ≡ run pixelCells (gains (around mode w)) from (to - from) (now (rows .entry)) ⌝ }
+    ensures { λ _. ⌜ now (rows .exit) ≡ gainedBy (around mode w) from to (now (rows .entry)) ⌝ }
 {
     match mode {
         0 => apply_predictor_transform_0(rows, w, from, to),

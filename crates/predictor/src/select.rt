@@ -1,5 +1,5 @@
-// Mode 11 rebuilt in place. Which neighbor the next pixel takes is worked out for both values that this pixel can have, so that the sum of distances
-// does not wait for this pixel's choice, and no choice is a branch.
+// Mode 11 rebuilt in place. Which neighbor the next pixel takes is worked out for both values that this pixel can have, so
+// that the sum of distances does not wait for this pixel's choice, and no choice is a branch.
 use format::Pixel;
 use pixel::pixel::add_pixels;
 use pixel::pixel::pick_pixel;
@@ -14,8 +14,7 @@ ghost use Rattle.format.specs.Byte.{add};
 ghost use Rattle.format.specs.Pixel.{each};
 ghost use Rattle.format.specs.Picture.{pixels};
 ghost use Rattle.pixel.specs.Distance.{between};
-ghost use Rattle.pixel.specs.Cells.{pixelCells, run};
-ghost use Rattle.predictor.specs.Row.{around, gains, leftNearer, Inside, Segment};
+ghost use Rattle.predictor.specs.Row.{around, gains, gainedBy, leftNearer, nextNearer, Inside, Segment};
 
 // A pixel that is rebuilt, and whether the next one takes its left neighbor.
 struct Turn {
@@ -31,7 +30,8 @@ fn pick_bool(near: bool, a: bool, b: bool) -> bool
 
 // `next` is the top neighbor of the next pixel, whose top-left one is t.
 fn choose(residual: Pixel, l: Pixel, t: Pixel, next: Pixel, near: bool) -> Turn
-    ensures { λ r. ⌜ (r .pixel ≡ each add residual (if near then l else t)) × (r .near ≡ ltb (between next t) (between (r .pixel) t)) ⌝ }
+    ensures { λ r. ⌜ r .pixel ≡ each add residual (if near then l else t) ⌝ }
+    ensures { λ r. ⌜ r .near ≡ ltb (between next t) (between (r .pixel) t) ⌝ }
 {
     let x = add_pixels(residual, l);
     let y = add_pixels(residual, t);
@@ -47,7 +47,8 @@ fn choose(residual: Pixel, l: Pixel, t: Pixel, next: Pixel, near: bool) -> Turn
 fn turn_11(rows: &[u8], w: usize, i: usize, left: Pixel, near: bool) -> Turn
     requires { ⌜ Inside w i (now rows) ⌝ }
     requires { ⌜ (left ≡ pixels (now rows) (i - 1)) × (near ≡ leftNearer w (pixels (now rows)) i) ⌝ }
-    ensures { λ r. ⌜ (r .pixel ≡ gains (around 11 w) (pixels (now (rows .entry))) i) × (r .near ≡ ltb (between (pixels (now (rows .entry)) (i - w + 1)) (pixels (now (rows .entry)) (i - w))) (between (r .pixel) (pixels (now (rows .entry)) (i - w)))) ⌝ }
+    ensures { λ r. ⌜ r .pixel ≡ gains (around 11 w) (pixels (now (rows .entry))) i ⌝ }
+    ensures { λ r. ⌜ r .near ≡ nextNearer w (pixels (now (rows .entry))) i (r .pixel) ⌝ }
 {
     let t = pixel_at(rows, i - w);
     let next = pixel_at(rows, i - w + 1);
@@ -64,7 +65,7 @@ fn left_nearer(rows: &[u8], w: usize, i: usize) -> bool
 
 pub fn apply_predictor_transform_11(rows: &mut [u8], w: usize, from: usize, to: usize)
     requires { ⌜ Segment w from to (now rows) ⌝ }
-    ensures { λ _. ⌜ now (rows .exit) ≡ run pixelCells (gains (around 11 w)) from (to - from) (now (rows .entry)) ⌝ }
+    ensures { λ _. ⌜ now (rows .exit) ≡ gainedBy (around 11 w) from to (now (rows .entry)) ⌝ }
 {
     if to <= from {
         return;

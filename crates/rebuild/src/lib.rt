@@ -1,34 +1,60 @@
-// Rebuilding a picture in one buffer whose front holds the strip: each record of the chain is undone, last record first.
-use chain::read_chain;
-use color::color::apply_color_transform;
-use color::subtract_green::apply_subtract_green_transform;
-use color_table::unpack::apply_color_indexing_transform;
-use format::Step;
-use predictor::inverse::apply_predictor_transform;
-ghost use mathlib.Core.Path.{_≡_};
-ghost use Prim.Native.Nat.{_*_};
-ghost use lib.ListN.{length};
-ghost use Rattle.format.specs.Picture.{pixels, written};
-ghost use Rattle.format.specs.Sizes.{Sized, Holds};
-ghost use Rattle.format.specs.ValidStep.{ValidStep};
-ghost use Rattle.format.specs.Stages.{backward};
-ghost use Rattle.format.specs.Calls.{rebuildAnswer, rebuildImage};
+// Rebuilding a picture in one buffer whose front holds the strip: each record is undone, last record first, row by row.
+pub mod row;
 
-// The inverse of one record's transform.
-fn undo(s: Step, height: usize, data: &[u8], image: &mut [u8])
-    requires { ⌜ Sized (s .width) height × ValidStep s height (length (now «data»)) ⌝ }
-    requires { ⌜ Holds (s .width) height (now image) ⌝ }
-    ensures { λ _. ⌜ now (image .exit) ≡ written (height * s .width) (backward s height (now («data» .entry)) (pixels (now (image .entry)))) (now (image .entry)) ⌝ }
+use crate::row::columns_for;
+use crate::row::rebuild_row;
+use chain::Chain;
+use chain::read_chain;
+use format::Step;
+ghost use mathlib.Core.Path.{_≡_};
+ghost use Prim.Native.Nat.{_<_};
+ghost use Rattle.format.specs.Calls.{rebuildAnswer, rebuildImage};
+ghost use Rattle.chain.specs.Valid.{Valid, HoldsPicture};
+ghost use Rattle.rebuild.specs.Rows.{Ready, ColumnsFor, rowsRebuilt, undone, recordUndone};
+
+// All rows, from the top: a row is predicted from the row above it.
+fn rebuild_down(s: Step, height: usize, data: &[u8], columns: &[u8; 8192], image: &mut [u8])
+    requires { ⌜ Ready s height (now «data») (now image) × ColumnsFor s (now «data») (now columns) × (s .kind ≡ 3 → ⊥) ⌝ }
+    ensures { λ _. ⌜ now (image .exit) ≡ rowsRebuilt s (now («data» .entry)) 0 height (now (image .entry)) ⌝ }
 {
-    let from = s.offset;
-    let to = from + s.length;
-    let kind = s.kind;
-    match kind {
-        0 => apply_predictor_transform(image, s.width, height, s.bits, &data[from..to]),
-        1 => apply_color_transform(image, s.width, height, s.bits, &data[from..to]),
-        2 => apply_subtract_green_transform(image, s.width, height),
-        _ => apply_color_indexing_transform(image, s.width, height, s.size, &data[from..to]),
+    let mut y = 0;
+    while y < height {
+        rebuild_row(s, y, height, data, columns, image);
+        y += 1;
     }
+}
+
+// All rows, from the bottom: a row's columns may lie where packed pixels of the rows above it stand.
+fn rebuild_up(s: Step, height: usize, data: &[u8], columns: &[u8; 8192], image: &mut [u8])
+    requires { ⌜ Ready s height (now «data») (now image) × ColumnsFor s (now «data») (now columns) × (s .kind ≡ 3) ⌝ }
+    ensures { λ _. ⌜ now (image .exit) ≡ rowsRebuilt s (now («data» .entry)) 0 height (now (image .entry)) ⌝ }
+{
+    let mut y = height;
+    while 0 < y {
+        rebuild_row(s, y - 1, height, data, columns, image);
+        y -= 1;
+    }
+}
+
+fn undo_step(s: Step, height: usize, data: &[u8], image: &mut [u8])
+    requires { ⌜ Ready s height (now «data») (now image) ⌝ }
+    ensures { λ _. ⌜ now (image .exit) ≡ undone s height (now («data» .entry)) (now (image .entry)) ⌝ }
+{
+    let columns = columns_for(s, height, data);
+    if s.kind == 3 {
+        rebuild_up(s, height, data, &columns, image);
+    } else {
+        rebuild_down(s, height, data, &columns, image);
+    }
+}
+
+// The inverse of record k's transform.
+fn undo(chain: Chain, k: usize, data: &[u8], image: &mut [u8])
+    requires { ⌜ Valid chain (now «data») × HoldsPicture chain (now image) × (k < chain .count) ⌝ }
+    ensures { λ _. ⌜ now (image .exit) ≡ recordUndone chain k (now («data» .entry)) (now (image .entry)) ⌝ }
+{
+    let steps = chain.steps;
+    undo_step(steps[k], chain.height, data, image);
 }
 
 // Tests 1 to 8, then the records.
@@ -36,18 +62,18 @@ pub fn rebuild(width: usize, height: usize, chain: &[u8], data: &[u8], image: &m
     ensures { λ r. ⌜ r ≡ rebuildAnswer width height (now (chain .entry)) (now («data» .entry)) (now (image .entry)) ⌝ }
     ensures { λ r. ⌜ now (image .exit) ≡ rebuildImage width height (now (chain .entry)) (now («data» .entry)) (now (image .entry)) ⌝ }
 {
-    let read = read_chain(width, height, chain, data.len());
+    let read = read_chain(width, height, chain, data);
     if read.refusal != 0 {
         return read.refusal;
     }
     if image.len() < 4 * (height * width) {
         return 8;
     }
-    let steps = read.steps;
-    let mut k = read.count;
+    let count = read.count;
+    let mut k = count;
     while 0 < k {
+        undo(read, k - 1, data, image);
         k -= 1;
-        undo(steps[k], height, data, image);
     }
     0
 }

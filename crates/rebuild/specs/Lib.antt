@@ -1,0 +1,2 @@
+-- What the contracts of `rebuild` cite beside the definitions of `format`.
+pub mod Rows

@@ -3,7 +3,6 @@ use mathlib.Core.Bool.{Bool, true, false, _&&_}
 use mathlib.Core.List.{List}
 use mathlib.Core.Path.{_≡_, refl, sym, _∙_}
 use Prim.Native.Nat.{ℕ, _*_, _%_, _≤_, _<_}
-use native.Mathlib.Nat.{mul-le-mul}
 use native.Mathlib.Omega.{arith}
 use borrow.Author.Tests.{eq-eqb, ne-eqb, le-leb, lt-leb, leb-true}
 use lib.Dec.{leb, eqb}
@@ -13,7 +12,7 @@ use Rattle.format.specs.Refusals.{inRange, recordsRefusal, inputRefusal, _unles
 use Rattle.format.specs.Calls.{holds, pairRefusal}
 use Rattle.format.specs.Chain.{count}
 use Rattle.format.proofs.Choice.{and-left, and-right, and-both}
-use Rattle.format.proofs.Valid.{before-none, before-some, chain-unsized, chain-broken, chain-records, valid-sized}
+use Rattle.format.proofs.Valid.{before-none, before-some, chain-unsized, chain-broken, chain-records}
 use Rattle.chain.specs.declared.Chain.{Chain}
 use Rattle.chain.specs.Valid.{pixelsIn, recordsIn}
 use Rattle.chain.specs.Reading.{Read, Opened}
@@ -60,10 +59,6 @@ pub whole-chain : (w h : ℕ) (cs ds : List ℕ) → Sized w h → length cs % 1
 whole-chain w h cs ds s e l =
     let in-range : (inRange w && inRange h) ≡ true = rw (le-leb 1 w (s .wide), le-leb w 16384 (s .narrow), le-leb 1 h (s .tall), le-leb h 16384 (s .low)) refl in
     chain-records w h cs ds in-range (and-both (eqb (length cs % 16) 0) (leb (length cs) 64) (eq-eqb (length cs % 16) 0 e) (le-leb (length cs) 64 l))
-
--- a picture's pixels can be counted
-pub area-small : (w h : ℕ) (cs ds : List ℕ) → inputRefusal w h cs ds ≡ 0 → h * w ≤ 16384 * 16384
-area-small w h cs ds valid = let s = valid-sized w h cs ds valid in mul-le-mul (s .low) (s .narrow)
 
 -- both buffers
 

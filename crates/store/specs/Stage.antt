@@ -36,7 +36,8 @@ pub record Takes (s : Step) (ds row hints : List ℕ) : Type 0 where
 -- row′ begins with the records of row by the table s
 abbrev pub PackedRow : Step → List ℕ → List ℕ → List ℕ → Type 0
 PackedRow s ds row row′ =
-    (x : ℕ) → x < packedWidth (s .size) (s .width) → pixels row′ x ≡ packed (s .width) (s .size) (partOf s ds) (pixels row) x
+    (x : ℕ) → x < packedWidth (s .size) (s .width)
+    → pixels row′ x ≡ packed (s .width) (s .size) (partOf s ds) (pixels row) x
 
 -- a record has made row′ of row, and rows′ of rows: the predictor finds the row above in rows, and leaves the row there;
 -- other records leave rows

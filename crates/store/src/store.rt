@@ -28,7 +28,8 @@ fn store_rows(
 )
     requires { ⌜ Storing chain (now «data») (now picture) (now hints) × Scratch (now row) (now rows) ⌝ }
     requires { ⌜ HoldsStrip chain (now strip) × Accepts chain (now «data») (chain .count) (pixels (now picture)) ⌝ }
-    ensures { λ _. ⌜ now (strip .exit) ≡ stripAfter chain (now («data» .entry)) (now (picture .entry)) (now (strip .entry)) ⌝ }
+    ensures { λ _. ⌜ now (strip .exit) ≡ stripAfter chain (now («data» .entry)) (now (picture .entry))
+        (now (strip .entry)) ⌝ }
 {
     let width = chain.strip.0;
     let mut y = 0;
@@ -57,7 +58,8 @@ fn table_alone(chain: Chain) -> bool
 fn pack_rows(chain: Chain, data: &[u8], picture: &[u8], strip: &mut [u8], hints: &[u8])
     requires { ⌜ Storing chain (now «data») (now picture) (now hints) × TableAlone chain ⌝ }
     requires { ⌜ HoldsStrip chain (now strip) × Accepts chain (now «data») (chain .count) (pixels (now picture)) ⌝ }
-    ensures { λ _. ⌜ now (strip .exit) ≡ stripAfter chain (now («data» .entry)) (now (picture .entry)) (now (strip .entry)) ⌝ }
+    ensures { λ _. ⌜ now (strip .exit) ≡ stripAfter chain (now («data» .entry)) (now (picture .entry))
+        (now (strip .entry)) ⌝ }
 {
     let steps = chain.steps;
     let width = chain.strip.0;
@@ -80,8 +82,10 @@ fn pack_rows(chain: Chain, data: &[u8], picture: &[u8], strip: &mut [u8], hints:
 
 // Test 21, then the rows, by a table alone.
 fn store_table(chain: Chain, data: &[u8], picture: &[u8], strip: &mut [u8]) -> u32
-    requires { ⌜ Valid chain (now «data») × TableAlone chain × HoldsPicture chain (now picture) × HoldsStrip chain (now strip) ⌝ }
-    ensures { λ r. ⌜ Stored chain (now («data» .entry)) (now (picture .entry)) (now (strip .entry)) r (now (strip .exit)) ⌝ }
+    requires { ⌜ Valid chain (now «data») × TableAlone chain × HoldsPicture chain (now picture)
+        × HoldsStrip chain (now strip) ⌝ }
+    ensures { λ r. ⌜ Stored chain (now («data» .entry)) (now (picture .entry)) (now (strip .entry)) r
+        (now (strip .exit)) ⌝ }
 {
     let steps = chain.steps;
     let hints = hints_at(chain, 0, data);
@@ -96,7 +100,8 @@ fn store_table(chain: Chain, data: &[u8], picture: &[u8], strip: &mut [u8]) -> u
 // Test 21, then the rows, by whatever records.
 fn store_steps(chain: Chain, data: &[u8], picture: &[u8], strip: &mut [u8]) -> u32
     requires { ⌜ Valid chain (now «data») × HoldsPicture chain (now picture) × HoldsStrip chain (now strip) ⌝ }
-    ensures { λ r. ⌜ Stored chain (now («data» .entry)) (now (picture .entry)) (now (strip .entry)) r (now (strip .exit)) ⌝ }
+    ensures { λ r. ⌜ Stored chain (now («data» .entry)) (now (picture .entry)) (now (strip .entry)) r
+        (now (strip .exit)) ⌝ }
 {
     let mut row = [0u8; 65536];
     let mut rows = [0u8; 131072];
@@ -113,7 +118,8 @@ fn store_steps(chain: Chain, data: &[u8], picture: &[u8], strip: &mut [u8]) -> u
 // A valid chain whose buffers have room. A table alone needs no scratch rows.
 fn store_valid(chain: Chain, data: &[u8], picture: &[u8], strip: &mut [u8]) -> u32
     requires { ⌜ Valid chain (now «data») × HoldsPicture chain (now picture) × HoldsStrip chain (now strip) ⌝ }
-    ensures { λ r. ⌜ Stored chain (now («data» .entry)) (now (picture .entry)) (now (strip .entry)) r (now (strip .exit)) ⌝ }
+    ensures { λ r. ⌜ Stored chain (now («data» .entry)) (now (picture .entry)) (now (strip .entry)) r
+        (now (strip .exit)) ⌝ }
 {
     if table_alone(chain) {
         return store_table(chain, data, picture, strip);

@@ -1,5 +1,5 @@
 pub mod Tabled
+pub mod Valid
 pub mod Records
 pub mod Sizes
 pub mod Parts
-pub mod Ready

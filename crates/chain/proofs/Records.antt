@@ -11,10 +11,13 @@ use lib.Seq.{getD-set-other, getD-set-same}
 use Rattle.format.specs.declared.Step.{Step}
 use Rattle.format.specs.declared.Checked.{Checked}
 use Rattle.format.specs.Chain.{recordAt, stepAt, widthAt, narrowed, count}
-use Rattle.format.specs.Refusals.{usedBefore, checked, number, recordsRefusal}
+use Rattle.format.specs.Refusals.{usedBefore, checked, number, recordsRefusal, chainRefusal}
 use Rattle.format.proofs.Valid.{records-next, refusal-lasts}
 use Rattle.format.proofs.Stages.{width-record, widthAt-fewer}
-use Rattle.chain.specs.Reading.{noStep, StepsTo}
+use Rattle.chain.specs.declared.Chain.{Chain}
+use Rattle.chain.specs.Valid.{noStep}
+use Rattle.chain.specs.Reading.{StepsTo, ChainOf, Read}
+use Rattle.chain.proofs.Valid.{valid-of}
 
 module _ (cs : List ℕ) (w h n k x : ℕ) (s : Step) (a : Bool) (c : Checked) (r : ℕ) where
   -- what the turn learns
@@ -67,6 +70,10 @@ width-fits w k x cs s e q l =
     omega arith
 
 -- after the last
-pub all-read : (cs : List ℕ) (w h n k x : ℕ) (steps : List Step) → recordsRefusal cs w h n k ≡ 0 → x ≡ widthAt cs w k → StepsTo k w cs steps → k ≡ count cs
-    → (0 ≡ recordsRefusal cs w h n (count cs)) × (x ≡ widthAt cs w (count cs)) × StepsTo (count cs) w cs steps
-all-read cs w h n k x steps r e s q = (rw q at (sym r), rw q at e, record { at = λ j l. s .at j (omega arith) })
+pub all-read : (w h : ℕ) (cs ds : List ℕ) (k : ℕ) (c : Chain) → recordsRefusal cs w h (length ds) k ≡ 0 → StepsTo k w cs (c .steps) → c .strip .0 ≡ widthAt cs w k
+    → k ≡ count cs → c .count ≡ count cs → c .width .0 ≡ w → c .height ≡ h
+    → c .refusal ≡ 0 → chainRefusal w h cs (length ds) ≡ recordsRefusal cs w h (length ds) (count cs) → Read w h cs ds c
+all-read w h cs ds k c r s x q n i j z e =
+    let none : chainRefusal w h cs (length ds) ≡ 0 = e ∙ rw q at r in
+    let of : ChainOf w h cs c = record { count = n; steps = record { at = λ a l. s .at a (omega arith) }; width = i; height = j; strip = rw q at x } in
+    record { refusal = z ∙ sym none; of = λ y. of; valid = λ y. valid-of w h cs ds c none of }

@@ -1,23 +1,26 @@
--- Tests 1 and 2: what the code's tests say of the definition's refusal.
+-- Tests 1, 2 and 8: what the code's tests say of the definition's refusal.
 use mathlib.Core.Bool.{Bool, true, false, _&&_}
 use mathlib.Core.List.{List}
 use mathlib.Core.Path.{_≡_, refl, sym, _∙_}
 use Prim.Native.Nat.{ℕ, _*_, _%_, _≤_, _<_}
 use native.Mathlib.Nat.{mul-le-mul}
+use native.Mathlib.Omega.{arith}
 use borrow.Author.Tests.{eq-eqb, ne-eqb, le-leb, lt-leb, leb-true}
 use lib.Dec.{leb, eqb}
 use lib.ListN.{length}
 use Rattle.format.specs.Sizes.{Sized}
-use Rattle.format.specs.Refusals.{inRange, recordsRefusal, chainRefusal}
+use Rattle.format.specs.Refusals.{inRange, recordsRefusal, chainRefusal, _unless_}
+use Rattle.format.specs.Calls.{holds}
 use Rattle.format.specs.Chain.{count}
 use Rattle.format.proofs.Choice.{and-left, and-right, and-both}
-use Rattle.format.proofs.Valid.{chain-unsized, chain-broken, chain-records, valid-sized}
+use Rattle.format.proofs.Valid.{before-none, before-some, chain-unsized, chain-broken, chain-records, valid-sized}
 use Rattle.chain.specs.declared.Chain.{Chain}
-use Rattle.chain.specs.Reading.{ReadsAs}
+use Rattle.chain.specs.Valid.{pixelsIn, recordsIn}
+use Rattle.chain.specs.Reading.{Read, Opened, pairRefusal}
 
 -- a refusal, whose number is the definition's
-pub refused-as : (w n r : ℕ) (cs : List ℕ) (c : Chain) → c .refusal ≡ r → n ≡ r → (r ≡ 0 → ⊥) → ReadsAs n w cs c
-refused-as w n r cs c e q d = (e ∙ sym q, λ z. absurd (d (sym q ∙ z)))
+pub refused-as : (w h r : ℕ) (cs ds : List ℕ) (c : Chain) → c .refusal ≡ r → chainRefusal w h cs (length ds) ≡ r → (r ≡ 0 → ⊥) → Read w h cs ds c
+refused-as w h r cs ds c e q d = record { refusal = e ∙ sym q; of = λ z. absurd (d (sym e ∙ z)); valid = λ z. absurd (d (sym e ∙ z)) }
 
 -- test 1 passed
 pub sized : (w h : ℕ) → inRange w ≡ true → inRange h ≡ true → Sized w h
@@ -52,13 +55,56 @@ module _ (w h : ℕ) (cs : List ℕ) (n : ℕ) where
     pub too-many : 64 < length cs → chainRefusal w h cs n ≡ 2
     too-many l = chain-broken w h cs n both (and-false-right (eqb (length cs % 16) 0) (leb (length cs) 64) (lt-leb (length cs) 64 l))
 
-    pub whole-chain : length cs % 16 ≡ 0 → length cs ≤ 64 → chainRefusal w h cs n ≡ recordsRefusal cs w h n (count cs)
-    whole-chain e l = chain-records w h cs n both (and-both (eqb (length cs % 16) 0) (leb (length cs) 64) (eq-eqb (length cs % 16) 0 e) (le-leb (length cs) 64 l))
-
--- the same reading under an equal number
-pub reads-same : (m n w : ℕ) (cs : List ℕ) (c : Chain) → m ≡ n → ReadsAs n w cs c → ReadsAs m w cs c
-reads-same m n w cs c e r = (r .0 ∙ sym e, λ z. r .1 (sym e ∙ z))
+-- tests 1 and 2 passed
+pub whole-chain : (w h : ℕ) (cs : List ℕ) (n : ℕ) → Sized w h → length cs % 16 ≡ 0 → length cs ≤ 64 → chainRefusal w h cs n ≡ recordsRefusal cs w h n (count cs)
+whole-chain w h cs n s e l =
+    let in-range : (inRange w && inRange h) ≡ true = rw (le-leb 1 w (s .wide), le-leb w 16384 (s .narrow), le-leb 1 h (s .tall), le-leb h 16384 (s .low)) refl in
+    chain-records w h cs n in-range (and-both (eqb (length cs % 16) 0) (leb (length cs) 64) (eq-eqb (length cs % 16) 0 e) (le-leb (length cs) 64 l))
 
 -- a picture's pixels can be counted
 pub area-small : (w h n : ℕ) (cs : List ℕ) → chainRefusal w h cs n ≡ 0 → h * w ≤ 16384 * 16384
 area-small w h n cs valid = let s = valid-sized w h cs n valid in mul-le-mul (s .low) (s .narrow)
+
+-- both buffers
+
+module _ (w h : ℕ) (cs ds picture strip : List ℕ) (c : Chain) (read : Read w h cs ds c) where
+  -- refusals 1 to 7
+  pub not-opened : (c .refusal ≡ 0 → ⊥) → Opened w h cs ds picture strip c
+  not-opened d = record {
+    refusal = read .refusal ∙ sym (before-some (chainRefusal w h cs (length ds)) _ (λ z. d (read .refusal ∙ z)));
+    of = λ z. absurd (d z);
+    valid = λ z. absurd (d z);
+    held = λ z. absurd (d z);
+    room = λ z. absurd (d z);
+  }
+
+  module _ (e : c .refusal ≡ 0) where
+    room : pairRefusal w h cs ds picture strip ≡ (8 unless (holds picture (pixelsIn c) && holds strip (recordsIn c)))
+    room =
+        let of = read .of e in
+        before-none (chainRefusal w h cs (length ds)) _ (sym (read .refusal) ∙ e) ∙ rw (of .width, of .height, of .strip) refl
+
+    -- 8
+    short : (r : Chain) → r .refusal ≡ 8 → (holds picture (pixelsIn c) && holds strip (recordsIn c)) ≡ false → Opened w h cs ds picture strip r
+    short r q b = record {
+      refusal = q ∙ sym (room ∙ rw b refl);
+      of = λ z. absurd (omega arith);
+      valid = λ z. absurd (omega arith);
+      held = λ z. absurd (omega arith);
+      room = λ z. absurd (omega arith);
+    }
+
+    pub short-picture : (r : Chain) → r .refusal ≡ 8 → length picture < 4 * pixelsIn c → Opened w h cs ds picture strip r
+    short-picture r q l = short r q (and-false-left (holds picture (pixelsIn c)) (holds strip (recordsIn c)) (lt-leb (4 * pixelsIn c) (length picture) l))
+
+    pub short-strip : (r : Chain) → r .refusal ≡ 8 → length strip < 4 * recordsIn c → Opened w h cs ds picture strip r
+    short-strip r q l = short r q (and-false-right (holds picture (pixelsIn c)) (holds strip (recordsIn c)) (lt-leb (4 * recordsIn c) (length strip) l))
+
+    pub opened : 4 * pixelsIn c ≤ length picture → 4 * recordsIn c ≤ length strip → Opened w h cs ds picture strip c
+    opened p s = record {
+      refusal = e ∙ sym (room ∙ rw (le-leb (4 * pixelsIn c) (length picture) p, le-leb (4 * recordsIn c) (length strip) s) refl);
+      of = read .of;
+      valid = read .valid;
+      held = λ z. p;
+      room = λ z. s;
+    }

@@ -1,3 +1,3 @@
 -- What the contracts of `chain` cite beside the definitions of `format`.
+pub mod Valid
 pub mod Reading
-pub mod Ready

@@ -1,26 +1,46 @@
--- What reading a chain gives. w and h are the picture's width and height, cs the chain, n the data's length.
+-- What reading a chain gives. w and h are the picture's width and height, cs the chain, ds the data.
+use mathlib.Core.Bool.{_&&_}
 use mathlib.Core.List.{List}
 use mathlib.Core.Path.{_≡_}
-use Prim.Native.Nat.{ℕ, _<_}
-use lib.ListN.{getD}
+use Prim.Native.Nat.{ℕ, _*_, _<_}
+use lib.ListN.{length, take, drop, getD}
 use Rattle.format.specs.declared.Step.{Step}
 use Rattle.format.specs.Chain.{stepAt, widthAt, count as recordCount}
+use Rattle.format.specs.Refusals.{chainRefusal, _before_, _unless_}
+use Rattle.format.specs.Calls.{holds, records}
 use Rattle.chain.specs.declared.Chain.{Chain}
+use Rattle.chain.specs.Valid.{noStep, HoldsPicture, HoldsStrip, Valid}
 
--- what stands past an array's end
-abbrev pub noStep : Step
-noStep = record { kind = 0; bits = 0; size = 0; offset = 0; length = 0; zero = 0; width = 0 }
+-- the part of the data that a record names
+abbrev pub dataOf : Step → List ℕ → List ℕ
+dataOf s ds = take (s .length) (drop (s .offset) ds)
+
+-- refusals 1 to 8 of the calls that have a picture and its strip
+abbrev pub pairRefusal : ℕ → ℕ → List ℕ → List ℕ → List ℕ → List ℕ → ℕ
+pairRefusal w h cs ds picture strip = chainRefusal w h cs (length ds) before (8 unless (holds picture (h * w) && holds strip (records w h cs)))
 
 -- the first k values of an array are the chain's records
 pub record StepsTo (k w : ℕ) (cs : List ℕ) (steps : List Step) : Type 0 where
   pub at : (j : ℕ) → j < k → getD steps j noStep ≡ stepAt cs w j
 
 -- c is the chain as plain values
-pub record ChainOf (w : ℕ) (cs : List ℕ) (c : Chain) : Type 0 where
+pub record ChainOf (w h : ℕ) (cs : List ℕ) (c : Chain) : Type 0 where
   pub count : c .count ≡ recordCount cs
   pub steps : StepsTo (recordCount cs) w cs (c .steps)
-  pub width : c .width ≡ widthAt cs w (recordCount cs)
+  pub width : c .width .0 ≡ w
+  pub height : c .height ≡ h
+  pub strip : c .strip .0 ≡ widthAt cs w (recordCount cs)
 
--- the number of the refusal, and the records where it is 0
-abbrev pub ReadsAs : ℕ → ℕ → List ℕ → Chain → Type 0
-ReadsAs number w cs c = (c .refusal ≡ number) × (number ≡ 0 → ChainOf w cs c)
+-- refusals 1 to 7 and, where there is none, the chain
+pub record Read (w h : ℕ) (cs ds : List ℕ) (c : Chain) : Type 0 where
+  pub refusal : c .refusal ≡ chainRefusal w h cs (length ds)
+  pub of : c .refusal ≡ 0 → ChainOf w h cs c
+  pub valid : c .refusal ≡ 0 → Valid c ds
+
+-- refusals 1 to 8 and, where there is none, the chain, with room in both buffers
+pub record Opened (w h : ℕ) (cs ds picture strip : List ℕ) (c : Chain) : Type 0 where
+  pub refusal : c .refusal ≡ pairRefusal w h cs ds picture strip
+  pub of : c .refusal ≡ 0 → ChainOf w h cs c
+  pub valid : c .refusal ≡ 0 → Valid c ds
+  pub held : c .refusal ≡ 0 → HoldsPicture c picture
+  pub room : c .refusal ≡ 0 → HoldsStrip c strip

@@ -3,36 +3,52 @@ use format::Checked;
 use format::Step;
 use pixel::block::subsample_size;
 use pixel::stride::Expanded;
+use pixel::stride::Packed;
 use pixel::stride::packed_width;
 ghost use mathlib.Core.Path.{_≡_};
 ghost use mathlib.Core.Bool.{true};
 ghost use Prim.Native.Nat.{_+_, _*_, _%_, _<_, _≤_};
 ghost use lib.ListN.{length};
 ghost use Rattle.format.specs.Sizes.{Sized};
-ghost use Rattle.format.specs.Chain.{two as twoBytes, four as fourBytes, recordAt, narrowed, count as recordCount};
-ghost use Rattle.format.specs.Refusals.{usedBefore, blocksTabled, greenTabled, tableTabled, tabled, blockBytes, tabledLength, checked, number, inRange, recordsRefusal, chainRefusal};
-ghost use Rattle.chain.specs.Reading.{ReadsAs};
+ghost use Rattle.format.specs.Chain.{two as le16Of, four as le32Of, recordAt, narrowed};
+ghost use Rattle.format.specs.Refusals.{usedBefore, blocksTabled, greenTabled, tableTabled, tabled, blockBytes};
+ghost use Rattle.format.specs.Refusals.{tabledLength, checked, number, inRange};
+ghost use Rattle.chain.specs.Reading.{dataOf, Read, Opened};
 
-// A chain as plain values: the number of its refusal, which is 0 where it is valid; then its records, and the current width after the last.
+// A chain as plain values, for a picture of its width and height. `refusal` is 0 where the chain is valid: only then do the other
+// fields say anything. `strip` is the strip's width, which is the current width after the last record.
 pub struct Chain {
     pub refusal: u32,
     pub count: usize,
     pub steps: [Step; 4],
-    pub width: usize,
+    pub width: Expanded,
+    pub height: usize,
+    pub strip: Packed,
 }
 
-fn two(xs: &[u8], i: usize) -> usize
+// The part of the data that a record names.
+pub fn part_of(data: &[u8], s: Step) -> &[u8]
+    requires { ⌜ s .offset + s .length ≤ length (now «data») ⌝ }
+    ensures { λ r. ⌜ now r ≡ dataOf s (now («data» .entry)) ⌝ }
+{
+    let from = s.offset;
+    let to = from + s.length;
+    &data[from..to]
+}
+
+// Little-endian numbers of 16 and of 32 bits.
+fn le16(xs: &[u8], i: usize) -> usize
     requires { ⌜ i + 2 ≤ length (now xs) ⌝ }
-    ensures { λ r. ⌜ (r ≡ twoBytes (now (xs .entry)) i) × (r < 65536) ⌝ }
+    ensures { λ r. ⌜ (r ≡ le16Of (now (xs .entry)) i) × (r < 65536) ⌝ }
 {
     xs[i] as usize + 256 * (xs[i + 1] as usize)
 }
 
-fn four(xs: &[u8], i: usize) -> usize
+fn le32(xs: &[u8], i: usize) -> usize
     requires { ⌜ i + 4 ≤ length (now xs) ⌝ }
-    ensures { λ r. ⌜ (r ≡ fourBytes (now (xs .entry)) i) × (r < 4294967296) ⌝ }
+    ensures { λ r. ⌜ (r ≡ le32Of (now (xs .entry)) i) × (r < 4294967296) ⌝ }
 {
-    two(xs, i) + 65536 * two(xs, i + 2)
+    le16(xs, i) + 65536 * le16(xs, i + 2)
 }
 
 fn record_at(chain: &[u8], k: usize, width: usize) -> Step
@@ -43,10 +59,10 @@ fn record_at(chain: &[u8], k: usize, width: usize) -> Step
     Step {
         kind: chain[i] as u32,
         bits: chain[i + 1] as u32,
-        size: two(chain, i + 2),
-        offset: four(chain, i + 4),
-        length: four(chain, i + 8),
-        zero: four(chain, i + 12),
+        size: le16(chain, i + 2),
+        offset: le32(chain, i + 4),
+        length: le32(chain, i + 8),
+        zero: le32(chain, i + 12),
         width,
     }
 }
@@ -143,10 +159,10 @@ fn tabled_length(s: Step, height: usize) -> usize
     }
 }
 
-// Tests 3 to 7 on a record, where the data has n bytes.
-fn check(s: Step, again: bool, height: usize, n: usize) -> Checked
+// Tests 3 to 7 on a record.
+fn check(s: Step, again: bool, height: usize, data: &[u8]) -> Checked
     requires { ⌜ (s .width ≤ 16384) × (height ≤ 16384) × (s .offset < 4294967296) × (s .length < 4294967296) ⌝ }
-    ensures { λ r. ⌜ r ≡ checked again height n s ⌝ }
+    ensures { λ r. ⌜ r ≡ checked again height (length (now («data» .entry))) s ⌝ }
 {
     if 3 < s.kind {
         return Checked::UnknownKind;
@@ -160,7 +176,7 @@ fn check(s: Step, again: bool, height: usize, n: usize) -> Checked
     if s.length != tabled_length(s, height) {
         return Checked::WrongLength;
     }
-    if n < s.offset + s.length {
+    if data.len() < s.offset + s.length {
         return Checked::BeyondData;
     }
     Checked::Taken(s)
@@ -215,13 +231,15 @@ fn refused(refusal: u32) -> Chain
         refusal,
         count: 0,
         steps: no_steps(),
-        width: 0,
+        width: Expanded(0),
+        height: 0,
+        strip: Packed(0),
     }
 }
 
-fn read_records(width: usize, height: usize, chain: &[u8], n: usize) -> Chain
+fn read_records(width: usize, height: usize, chain: &[u8], data: &[u8]) -> Chain
     requires { ⌜ Sized width height × (length (now chain) % 16 ≡ 0) × (length (now chain) ≤ 64) ⌝ }
-    ensures { λ r. ⌜ ReadsAs (recordsRefusal (now (chain .entry)) width height n (recordCount (now (chain .entry)))) width (now (chain .entry)) r ⌝ }
+    ensures { λ r. ⌜ Read width height (now (chain .entry)) (now («data» .entry)) r ⌝ }
 {
     let mut steps = no_steps();
     let count = chain.len() / 16;
@@ -229,7 +247,7 @@ fn read_records(width: usize, height: usize, chain: &[u8], n: usize) -> Chain
     let mut k = 0;
     while k < count {
         let s = record_at(chain, k, current);
-        let answer = refusal(check(s, used_before(chain, k), height, n));
+        let answer = refusal(check(s, used_before(chain, k), height, data));
         if answer != 0 {
             return refused(answer);
         }
@@ -241,7 +259,9 @@ fn read_records(width: usize, height: usize, chain: &[u8], n: usize) -> Chain
         refusal: 0,
         count,
         steps,
-        width: current,
+        width: Expanded(width),
+        height,
+        strip: Packed(current),
     }
 }
 
@@ -254,9 +274,9 @@ fn in_range(size: usize) -> bool
     size <= 16384
 }
 
-// Tests 1 to 7, where the data has n bytes.
-pub fn read_chain(width: usize, height: usize, chain: &[u8], n: usize) -> Chain
-    ensures { λ r. ⌜ ReadsAs (chainRefusal width height (now (chain .entry)) n) width (now (chain .entry)) r ⌝ }
+// Tests 1 to 7.
+pub fn read_chain(width: usize, height: usize, chain: &[u8], data: &[u8]) -> Chain
+    ensures { λ r. ⌜ Read width height (now (chain .entry)) (now («data» .entry)) r ⌝ }
 {
     if !in_range(width) {
         return refused(1);
@@ -270,5 +290,29 @@ pub fn read_chain(width: usize, height: usize, chain: &[u8], n: usize) -> Chain
     if 64 < chain.len() {
         return refused(2);
     }
-    read_records(width, height, chain, n)
+    read_records(width, height, chain, data)
+}
+
+// Tests 1 to 8 of the calls that have a picture and its strip.
+pub fn open(
+    width: usize,
+    height: usize,
+    chain: &[u8],
+    data: &[u8],
+    picture: &[u8],
+    strip: &[u8],
+) -> Chain
+    ensures { λ r. ⌜ Opened width height (now (chain .entry)) (now («data» .entry)) (now (picture .entry)) (now (strip .entry)) r ⌝ }
+{
+    let read = read_chain(width, height, chain, data);
+    if read.refusal != 0 {
+        return read;
+    }
+    if picture.len() < 4 * (read.height * read.width.0) {
+        return refused(8);
+    }
+    if strip.len() < 4 * (read.height * read.strip.0) {
+        return refused(8);
+    }
+    read
 }

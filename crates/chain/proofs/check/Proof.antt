@@ -17,7 +17,7 @@ check-spec =
     (λ c. rw (le-ltb _ _ (c .before .if1 .left), c .if2 .taken) refl)
     (λ c κs. search needs)
     (λ c. rw (le-ltb _ _ (c .before .before .before .if1 .left), c .before .before .if2 .left, not-taken _ _ (c .before .fields-tabled .ensures) (c .if3 .taken)) refl)
-    (λ c κs. (not-left _ _ (c .before .fields-tabled .ensures) (c .if3 .left), c .before .before .before .before .before .pre .0, c .before .before .before .before .before .pre .1))
+    (λ c κs. (not-left _ _ (c .before .fields-tabled .ensures) (c .if3 .left), c .before .before .before .before .before .before .pre .0, c .before .before .before .before .before .before .pre .1))
     (λ c. rw (le-ltb _ _ (c .before .before .before .before .before .before .if1 .left), c .before .before .before .before .before .if2 .left, not-left _ _ (c .before .before .before .before .fields-tabled .ensures) (c .before .before .before .if3 .left), ← c .before .before .tabled-length .ensures, ne-eqb _ _ (c .if4 .taken)) refl)
     (λ c. omega arith)
     (λ c. rw (le-ltb _ _ (c .before .before .before .before .before .before .before .before .if1 .left), c .before .before .before .before .before .before .before .if2 .left, not-left _ _ (c .before .before .before .before .before .before .fields-tabled .ensures) (c .before .before .before .before .before .if3 .left), ← c .before .before .before .before .tabled-length .ensures, eq-eqb _ _ (c .before .before .if4 .left), lt-ltb _ _ (c .if5 .taken)) refl)

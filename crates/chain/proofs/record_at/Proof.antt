@@ -25,4 +25,4 @@ record-at-spec =
     (λ c κs. search needs)
     (λ c. search needs)
     (λ c κs. search needs)
-    (λ c. (cc (c .before .before .before .two .ensures .0, c .before .before .four .ensures .0, c .before .four2 .ensures .0, c .four3 .ensures .0), c .before .before .four .ensures .1, c .before .four2 .ensures .1)))
+    (λ c. (cc (c .before .before .before .le16 .ensures .0, c .before .before .le32 .ensures .0, c .before .le322 .ensures .0, c .le323 .ensures .0), c .before .before .le32 .ensures .1, c .before .le322 .ensures .1)))

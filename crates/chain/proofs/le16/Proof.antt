@@ -1,13 +1,13 @@
--- `two` meets its contract.
+-- `le16` meets its contract.
 use Prim.Native.Nat.{_+_}
 use mathlib.Core.Path.{refl}
 use borrow.Author.Needs.{needs}
 use native.Mathlib.Omega.{arith}
-use Rattle.chain.proofs.two.Statement.{statement}
-use Rattle.chain.proofs.two.Tie as tie
+use Rattle.chain.proofs.le16.Statement.{statement}
+use Rattle.chain.proofs.le16.Tie as tie
 
-pub two-spec : {M : Type 1} → statement M
-two-spec =
+pub le16-spec : {M : Type 1} → statement M
+le16-spec =
     tie.close
     (tie.spec
     (λ c. search needs)

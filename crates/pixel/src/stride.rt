@@ -1,7 +1,8 @@
 // Packed columns and expanded ones, which are counted in different pixels: neither may stand for the other.
 ghost use mathlib.Core.Path.{_≡_};
-ghost use Prim.Native.Nat.{_%_, _≤_};
+ghost use Prim.Native.Nat.{_≤_};
 ghost use Rattle.format.specs.ColorTable.{perPixel, packedWidth};
+ghost use Rattle.pixel.specs.Stride.{Places};
 
 // Columns of a row of packed pixels.
 pub struct Packed(pub usize);
@@ -11,7 +12,7 @@ pub struct Expanded(pub usize);
 
 // How many indices a packed pixel holds.
 pub fn per_pixel(size: usize) -> usize
-    ensures { λ r. ⌜ (r ≡ perPixel size) × (1 ≤ r) × (r ≤ 8) × (r ≡ 6 → ⊥) × (size ≤ 16 → r % 2 ≡ 0) ⌝ }
+    ensures { λ r. ⌜ (r ≡ perPixel size) × Places r ⌝ }
 {
     if size <= 2 {
         8

@@ -1,4 +1,5 @@
 -- `per_pixel` meets its contract, test by test.
+use mathlib.Core.Logic.{inl, inr}
 use mathlib.Core.Path.{refl}
 use native.Mathlib.Omega.{arith}
 use borrow.Author.Tests.{le-leb, lt-leb}
@@ -11,7 +12,7 @@ unfolding perPixel
 per-pixel-spec =
     tie.close
     (tie.spec
-    (λ c. rw (le-leb _ _ (c .if1 .taken)) (refl, omega arith, omega arith, (λ h. omega arith), λ h. refl))
-    (λ c. rw (lt-leb _ _ (c .before .if1 .left), le-leb _ _ (c .if2 .taken)) (refl, omega arith, omega arith, (λ h. omega arith), λ h. refl))
-    (λ c. rw (lt-leb _ _ (c .before .before .if1 .left), lt-leb _ _ (c .before .if2 .left), le-leb _ _ (c .if3 .taken)) (refl, omega arith, omega arith, (λ h. omega arith), λ h. refl))
-    (λ c. rw (lt-leb _ _ (c .before .before .if1 .left), lt-leb _ _ (c .before .if2 .left), lt-leb _ _ (c .if3 .left)) (refl, omega arith, omega arith, (λ h. omega arith), λ h. absurd (omega arith))))
+    (λ c. rw (le-leb _ _ (c .if1 .taken)) (refl, record { some = omega arith; most = omega arith; only = inr (inr (inr refl)) }))
+    (λ c. rw (lt-leb _ _ (c .before .if1 .left), le-leb _ _ (c .if2 .taken)) (refl, record { some = omega arith; most = omega arith; only = inr (inr (inl refl)) }))
+    (λ c. rw (lt-leb _ _ (c .before .before .if1 .left), lt-leb _ _ (c .before .if2 .left), le-leb _ _ (c .if3 .taken)) (refl, record { some = omega arith; most = omega arith; only = inr (inl refl) }))
+    (λ c. rw (lt-leb _ _ (c .before .before .if1 .left), lt-leb _ _ (c .before .if2 .left), lt-leb _ _ (c .if3 .left)) (refl, record { some = omega arith; most = omega arith; only = inl refl })))

@@ -2,16 +2,11 @@
 use mathlib.Core.Bool.{Bool, true, false}
 use Prim.Native.Nat.{ℕ}
 use Rattle.format.specs.declared.Pixel.{Pixel}
+use Rattle.format.specs.declared.Made.{Made}
+use Rattle.format.specs.declared.Made.the-variants.{Item, Missing}
 use Rattle.format.specs.Byte.{sub}
 use Rattle.format.specs.Pixel.{clear, each}
 use Rattle.format.specs.Predictor.{predict}
-use Rattle.item.specs.declared.Made.{Made}
-use Rattle.item.specs.declared.Made.the-variants.{Item, Missing}
-
--- the item v, unless it is missing
-unfoldable pub made : Bool → Pixel → Made
-made true v = Missing
-made false v = Item v
 
 -- an item that was asked for; else any
 unfoldable pub asked : Bool → Made → Made

@@ -1,7 +1,7 @@
 -- The demands of document 00, as specs/Promises.antt states them, proved.
 use mathlib.Core.Bool.{Bool, true, false, true≢false}
 use mathlib.Core.List.{List, []}
-use mathlib.Core.Logic.{_⊎_, inl, inr}
+use mathlib.Core.Logic.{_⊎_, inl, inr, _↔_}
 use mathlib.Core.Path.{_≡_, refl, sym, ap, _∙_}
 use Prim.Native.Nat.{ℕ, _+_, _*_, _≤_}
 use native.Mathlib.Nat.{le-trans}
@@ -10,17 +10,18 @@ use Rattle.format.specs.Choice.{if_then_else_}
 use Rattle.format.specs.Picture.{Picture, byteAt, pixels, written, writtenBytes}
 use Rattle.format.specs.ColorMap.{adjusted, unadjusted, refused, colorMapAnswer, adjustColorMap, unadjustColorMap}
 use Rattle.format.specs.Chain.{recordAt, stepAt, count}
-use Rattle.format.specs.Refusals.{accepted, inputRefusal}
+use Rattle.format.specs.Refusals.{accepted, sizeRefusal, chainRefusal, inputRefusal}
 use Rattle.format.specs.Stages.{stored, rebuilt}
 use Rattle.format.specs.Retouch.{differ, marks, maskOf}
 use Rattle.format.specs.Calls.{records, rebuildAnswer, rebuildImage, storeAnswer, storeStrip, touched}
-use Rattle.format.specs.Desk.{Retouch, Buffers, callLeaves}
-use Rattle.format.specs.Promises.{SameFront, RebuildingAnswers, StoringAnswers, RetouchingAnswers, RebuildingRefused, StoringRefused, RetouchingRefused, RebuildsStored, StoresRebuilt, StoredPair, OneCall, left, RetouchesLikeDesk, ColorMapAnswers, ColorMapRefused}
+use Rattle.format.specs.Lists.{leftBy}
+use Rattle.format.specs.Desk.{Retouch, Buffers, desk, callLeaves}
+use Rattle.format.specs.Promises.{SameFront, Admitted, RebuildingExactly, StoringExactly, RebuildingAnswers, StoringAnswers, RetouchingAnswers, RebuildingRefused, StoringRefused, RetouchingRefused, RebuildsStored, StoresRebuilt, StoredPair, OneCall, left, paintedInTurn, RetouchesLikeDesk, ColorMapAnswers, ColorMapRefused}
 use Rattle.format.proofs.Picture.{written-same}
 use Rattle.format.proofs.Written.{bytes-pixels, pixels-written}
 use Rattle.format.proofs.Inside.{Alike}
 use Rattle.format.proofs.Stages.{stored-same, rebuilt-same}
-use Rattle.format.proofs.Valid.{valid-sized, valid-known}
+use Rattle.format.proofs.Valid.{before-zero, valid-sized, valid-known}
 use Rattle.format.proofs.Chains.{chain-stored, chain-rebuilt, widthAt-untabled, accepts-untabled}
 use Rattle.format.proofs.Calls.{rebuildAnswer-most, rebuild-accepts, rebuild-accepted, rebuildImage-accepted, rebuildImage-refused, storeAnswer-listed, store-accepts, store-accepted, storeStrip-accepted, storeStrip-refused, retouchAnswer-listed, retouch-refused}
 use Rattle.format.proofs.Marks.{marks-length, mask-small}
@@ -64,6 +65,22 @@ module _ (w h : ℕ) (cs ds : List ℕ) where
 
   pub storing-refused : StoringRefused w h cs ds
   storing-refused picture strip e = storeStrip-refused w h cs ds picture strip (not-zero (storeAnswer w h cs ds picture strip) e)
+
+  admitted : (inputRefusal w h cs ds ≡ 0) ↔ Admitted w h cs ds
+  unfolding inputRefusal
+  admitted = (before-zero (sizeRefusal w h) (chainRefusal w h cs ds), λ a. rw (a .0) (a .1))
+
+  pub rebuilding-exactly : RebuildingExactly w h cs ds
+  rebuilding-exactly image = (
+    λ e. let a = rebuild-accepted w h cs ds image e in (admitted .0 (a .0), a .1),
+    λ a. rebuild-accepts w h cs ds image (admitted .1 (a .0)) (a .1),
+  )
+
+  pub storing-exactly : StoringExactly w h cs ds
+  storing-exactly picture strip = (
+    λ e. let a = store-accepted w h cs ds picture strip e in (admitted .0 (a .0), (a .1, a .2), a .3),
+    λ a. store-accepts w h cs ds picture strip (admitted .1 (a .0)) (a .1 .0) (a .1 .1) (a .2),
+  )
 
   pub rebuilds-stored : RebuildsStored w h cs ds
   rebuilds-stored picture strip image bytes e room front =
@@ -157,11 +174,12 @@ module _ (w h : ℕ) (cs ds : List ℕ) where
       let m = matched b s in
       let both = listed w h cs ds valid calls b m in
       let l = both .1 in
+      let painted : paintedInTurn w h cs ds b calls ≡ leftBy (desk w h cs ds) (pixels (b .picture)) calls = rw (both .0) (sym (desk-painted w h cs ds calls (pixels (b .picture)))) in
       let a = store-accepts w h cs ds (left w h cs ds b calls .picture) (b .strip) valid (l .matched .room) (m .space) (l .matched .taken) in
       record {
         answers = both .0;
-        picture = l .picture ∙ ap (λ (f : Picture). written (h * w) f (b .picture)) (desk-painted w h cs ds calls (pixels (b .picture)) ∙ rw (← both .0) refl);
-        deskPicture = l .picture;
+        picture = l .picture ∙ ap (λ (f : Picture). written (h * w) f (b .picture)) (sym painted);
+        held = painted;
         stored = a;
         strip = l .strip ∙ rw (← l .read) (sym (storeStrip-accepted w h cs ds (left w h cs ds b calls .picture) (b .strip) a));
         next = λ c. one-call valid (left w h cs ds b calls) c (l .matched);

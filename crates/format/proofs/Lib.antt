@@ -24,6 +24,7 @@ pub mod Making
 pub mod Marks
 pub mod Afresh
 pub mod Spots
+pub mod Unmade
 pub mod Steps
 pub mod Calls
 pub mod Retouching

@@ -20,7 +20,7 @@ use Rattle.format.specs.ColorTable.{perPixel, packedWidth, hasEntry}
 use Rattle.format.specs.Chain.{narrowed, widthAt, stepAt, count}
 use Rattle.format.specs.Refusals.{inputRefusal}
 use Rattle.format.specs.Stages.{partOf, takes, stored, accepts}
-use Rattle.format.specs.Made.{modeNames, namedBy, named, columns, madeOf, takesItem, missing}
+use Rattle.format.specs.Made.{modeNames, namedBy, named, columns, madeOf, takesItem, missing, lost}
 use Rattle.format.specs.Retouch.{packedOver, spotsOf, spotRecords, unmade}
 use Rattle.format.specs.Calls.{records}
 use Rattle.format.proofs.Choice.{and-left, and-right, and-both, or-left, or-right, or-cases, every-at, not-every, every-true, if-cases, opposite}
@@ -95,19 +95,19 @@ columns-inside w h y l (suc n) x =
 -- what an item is made of, by kind
 
 module _ (s : Step) (ds : List ℕ) (r : ℕ) where
-  made-predictor : s .kind ≡ 0 → madeOf s ds r ≡ r ∷ named (s .width) (s .bits) (partOf s ds) (r % s .width) (r / s .width)
+  pub made-predictor : s .kind ≡ 0 → madeOf s ds r ≡ r ∷ named (s .width) (s .bits) (partOf s ds) (r % s .width) (r / s .width)
   unfolding madeOf
   made-predictor e = byKind-0 _ _ _ _ (s .kind) e
 
-  made-color : s .kind ≡ 1 → madeOf s ds r ≡ r ∷ []
+  pub made-color : s .kind ≡ 1 → madeOf s ds r ≡ r ∷ []
   unfolding madeOf
   made-color e = byKind-1 _ _ _ _ (s .kind) e
 
-  made-green : s .kind ≡ 2 → madeOf s ds r ≡ r ∷ []
+  pub made-green : s .kind ≡ 2 → madeOf s ds r ≡ r ∷ []
   unfolding madeOf
   made-green e = byKind-2 _ _ _ _ (s .kind) e
 
-  made-table : s .kind ≡ 3
+  pub made-table : s .kind ≡ 3
       → madeOf s ds r
       ≡ columns (s .width) (r / packedWidth (s .size) (s .width)) (perPixel (s .size)) (r % packedWidth (s .size) (s .width) * perPixel (s .size))
   unfolding madeOf
@@ -188,10 +188,6 @@ module _ (steps : ℕ → Step) (widths : ℕ → ℕ) (h : ℕ) (ds : List ℕ)
   abbrev Fit : ℕ → Type 0
   Fit k = (j : ℕ) → j < k → Fits (steps j) (widths j) (widths (suc j))
 
-  -- item q before record k cannot be made of f, or is not taken
-  abbrev lost : ℕ → Picture → ℕ → Bool
-  lost k f q = missing steps ds k f q || not (takesItem (steps k) ds (stored steps ds k f q))
-
   -- the next record takes each item of an accepted picture
   taken : (k : ℕ) (f : Picture) → accepts steps h ds (suc k) f ≡ true → (q : ℕ) → q < h * steps k .width → takesItem (steps k) ds (stored steps ds k f q) ≡ true
   unfolding accepts
@@ -205,7 +201,7 @@ module _ (steps : ℕ → Step) (widths : ℕ → ℕ) (h : ℕ) (ds : List ℕ)
   none-missing zero fit f a r l e = false≢true e
   none-missing (suc k) fit f a r l e =
       let now = fit k (omega arith) in
-      let m = in-some (lost k f) (madeOf (steps k) ds r) e in
+      let m = in-some (lost steps ds k f) (madeOf (steps k) ds r) e in
       let q = m .0 in
       let b = made-inside (steps k) h ds (now .wide) (now .known) r q (rw (now .to) l) (m .1) in
       ⊎-elim (none-missing k (λ j i. fit j (omega arith)) f (and-left (accepts steps h ds k f) _ a) q (subst (λ (x : ℕ). q < h * x) (now .from) b))
@@ -219,7 +215,7 @@ module _ (steps : ℕ → Step) (widths : ℕ → ℕ) (h : ℕ) (ds : List ℕ)
     Missing k = (r : ℕ) × (r < h * widths k) × In r (spotRecords steps k ps) × (missing steps ds k g r ≡ true)
 
     -- an item of their spots that is lost makes one after the next record missing
-    missing-next : (k : ℕ) → Fit (suc k) → (q : ℕ) → q < h * steps k .width → In q (spotRecords steps k ps) → lost k g q ≡ true → Missing (suc k)
+    missing-next : (k : ℕ) → Fit (suc k) → (q : ℕ) → q < h * steps k .width → In q (spotRecords steps k ps) → lost steps ds k g q ≡ true → Missing (suc k)
     unfolding missing spotRecords
     missing-next k fit q l m e =
         let now = fit k (omega arith) in
@@ -227,7 +223,7 @@ module _ (steps : ℕ → Step) (widths : ℕ → ℕ) (h : ℕ) (ds : List ℕ)
           o .0,
           subst (λ (x : ℕ). o .0 < h * x) (now .to) (o .1),
           in-union (spotsOf (steps k)) (spotRecords steps k ps) m (o .2),
-          some-in (lost k g) q (madeOf (steps k) ds (o .0)) (o .3) e,
+          some-in (lost steps ds k g) q (madeOf (steps k) ds (o .0)) (o .3) e,
         )
 
     -- of a changed picture that is not accepted, one of these cannot be made

@@ -41,12 +41,12 @@ placed steps t zero q = q
 placed steps t (suc k) q = if leb t k then placeOf (steps k) (placed steps t k q) else q
 
 module _ (steps : ℕ → Step) (t : ℕ) where
-  placed-same : (k : ℕ) → k ≤ t → (q : ℕ) → placed steps t k q ≡ q
+  pub placed-same : (k : ℕ) → k ≤ t → (q : ℕ) → placed steps t k q ≡ q
   unfolding placed
   placed-same zero l q = refl
   placed-same (suc k) l q = rw (lt-leb t k l)
 
-  placed-next : (k : ℕ) → t ≤ k → (q : ℕ) → placed steps t (suc k) q ≡ placeOf (steps k) (placed steps t k q)
+  pub placed-next : (k : ℕ) → t ≤ k → (q : ℕ) → placed steps t (suc k) q ≡ placeOf (steps k) (placed steps t k q)
   unfolding placed
   placed-next k l q = rw (le-leb t k l)
 
@@ -84,7 +84,7 @@ place-inside s a b fit h q = rw (← fit .from, ← fit .to) (go (ℕ-discrete (
     go (no n) = rw (narrowed-other s n, ne-eqb (s .kind) 3 n) (λ x. x, λ x. x)
 
 -- induction from t on
-from : (C : ℕ → Type 0) (t : ℕ) → C t → ((k : ℕ) → t ≤ k → C k → C (suc k)) → (k : ℕ) → t ≤ k → C k
+pub from : (C : ℕ → Type 0) (t : ℕ) → C t → ((k : ℕ) → t ≤ k → C k → C (suc k)) → (k : ℕ) → t ≤ k → C k
 from C t a b zero l = let e : t ≡ 0 = omega arith in subst C e a
 from C t a b (suc k) l = go (ℕ-discrete t (suc k)) (from C t a b k)
   where

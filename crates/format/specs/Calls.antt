@@ -1,4 +1,5 @@
--- What the calls on chains return and leave: the number, and every byte of each buffer that is lent to be written. A refusal changes no byte.
+-- What the calls on chains return and leave: the number, and every byte of each buffer that is lent to be written. A
+-- refusal changes no byte.
 use mathlib.Core.Bool.{Bool, _&&_}
 use mathlib.Core.List.{List, [], _∷_}
 use Prim.Native.Nat.{ℕ, _+_, _*_}
@@ -33,9 +34,20 @@ abbrev pub touched : ℕ → List ℕ → ℕ → ℕ → List ℕ
 touched w cs x y = spotRecords (stepAt cs w) (count cs) ((y * w + x) ∷ [])
 
 module _ (w h : ℕ) (cs ds : List ℕ) where
+  -- the whole chain: the strip of a picture, the picture of a strip, and whether storing accepts a picture
+  abbrev pub stripOf : Picture → Picture
+  stripOf f = stored (stepAt cs w) ds (count cs) f
+
+  abbrev pub pictureOf : Picture → Picture
+  pictureOf g = rebuilt (stepAt cs w) h ds (count cs) g
+
+  abbrev pub storable : Picture → Bool
+  storable f = accepts (stepAt cs w) h ds (count cs) f
+
   -- refusals 1 to 8 where a picture and its strip are lent
   unfoldable pub pairRefusal : List ℕ → List ℕ → ℕ
-  pairRefusal picture strip = inputRefusal w h cs ds before (8 unless (holds picture (h * w) && holds strip (records w h cs)))
+  pairRefusal picture strip =
+      inputRefusal w h cs ds before (8 unless (holds picture (h * w) && holds strip (records w h cs)))
 
   -- rebuilding, in one buffer whose front holds the strip
   unfoldable pub rebuildAnswer : List ℕ → ℕ
@@ -43,22 +55,23 @@ module _ (w h : ℕ) (cs ds : List ℕ) where
 
   unfoldable pub rebuildImage : List ℕ → List ℕ
   rebuildImage image =
-      if accepted (rebuildAnswer image) then written (h * w) (rebuilt (stepAt cs w) h ds (count cs) (pixels image)) image else image
+      if accepted (rebuildAnswer image) then written (h * w) (pictureOf (pixels image)) image else image
 
   -- storing, from the picture into the strip
   unfoldable pub storeAnswer : List ℕ → List ℕ → ℕ
-  storeAnswer picture strip = pairRefusal picture strip before (21 unless accepts (stepAt cs w) h ds (count cs) (pixels picture))
+  storeAnswer picture strip = pairRefusal picture strip before (21 unless storable (pixels picture))
 
   unfoldable pub storeStrip : List ℕ → List ℕ → List ℕ
   storeStrip picture strip =
-      if accepted (storeAnswer picture strip)
-      then written (records w h cs) (stored (stepAt cs w) ds (count cs) (pixels picture)) strip
-      else strip
+      if accepted (storeAnswer picture strip) then written (records w h cs) (stripOf (pixels picture)) strip else strip
 
   -- retouching: column x of row y painted with the color v
   module _ (picture strip : List ℕ) (x y : ℕ) (v : Pixel) where
     abbrev pub retouched : Picture
     retouched = painted w (pixels picture) x y v
+
+    abbrev pub retouchRecords : Picture
+    retouchRecords = newStrip (stepAt cs w) ds (count cs) retouched ((y * w + x) ∷ []) (pixels strip)
 
     unfoldable pub retouchAnswer : ℕ
     retouchAnswer =
@@ -70,7 +83,4 @@ module _ (w h : ℕ) (cs ds : List ℕ) where
     retouchPicture = if accepted retouchAnswer then written (h * w) retouched picture else picture
 
     unfoldable pub retouchStrip : List ℕ
-    retouchStrip =
-        if accepted retouchAnswer
-        then written (records w h cs) (newStrip (stepAt cs w) ds (count cs) retouched ((y * w + x) ∷ []) (pixels strip)) strip
-        else strip
+    retouchStrip = if accepted retouchAnswer then written (records w h cs) retouchRecords strip else strip

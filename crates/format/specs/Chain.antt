@@ -1,4 +1,5 @@
--- Chains (document 01, "Pictures, strips, chains"): the records in a chain's bytes. cs is the chain, w the picture's width.
+-- Chains (document 01, "Pictures, strips, chains"): the records in a chain's bytes. cs is the chain, w the picture's
+-- width.
 use mathlib.Core.List.{List}
 use Prim.Native.Nat.{ℕ, zero, suc, _+_, _*_, _/_}
 use lib.Dec.{eqb}
@@ -29,7 +30,11 @@ recordAt cs k x = record {
 
 -- a choice by kind: 0 predictor, 1 color, 2 subtract green, 3 color table
 unfoldable pub byKind : {A : Type 0} → ℕ → A → A → A → A → A
-byKind k predictor color green table = if eqb k 0 then predictor else if eqb k 1 then color else if eqb k 2 then green else table
+byKind k predictor color green table =
+    if eqb k 0 then predictor
+    else if eqb k 1 then color
+    else if eqb k 2 then green
+    else table
 
 -- the current width after a record: kind 3 alone changes it
 unfoldable pub narrowed : Step → ℕ

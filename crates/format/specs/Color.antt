@@ -23,7 +23,8 @@ abbrev pub storedBlue : Pixel → ℕ → ℕ → ℕ → ℕ
 storedBlue e g r b = sub (sub b (delta (greenToBlue e) g)) (delta (redToBlue e) r)
 
 unfoldable pub transformColor : Pixel → Pixel → Pixel
-transformColor e v = pixel (storedRed e (v .green) (v .red)) (v .green) (storedBlue e (v .green) (v .red) (v .blue)) (v .alpha)
+transformColor e v =
+    pixel (storedRed e (v .green) (v .red)) (v .green) (storedBlue e (v .green) (v .red) (v .blue)) (v .alpha)
 
 -- rebuilding adds the same deltas, blue's from the new red
 abbrev pub rebuiltRed : Pixel → ℕ → ℕ → ℕ
@@ -34,7 +35,8 @@ rebuiltBlue e g newRed b = add (add b (delta (greenToBlue e) g)) (delta (redToBl
 
 unfoldable pub inverseColor : Pixel → Pixel → Pixel
 inverseColor e v =
-    pixel (rebuiltRed e (v .green) (v .red)) (v .green) (rebuiltBlue e (v .green) (rebuiltRed e (v .green) (v .red)) (v .blue)) (v .alpha)
+    let newRed = rebuiltRed e (v .green) (v .red) in
+    pixel newRed (v .green) (rebuiltBlue e (v .green) newRed (v .blue)) (v .alpha)
 
 -- a picture of w columns, each pixel by its block's data pixel
 unfoldable pub colorStored : ℕ → ℕ → Picture → Picture → Picture

@@ -1,4 +1,5 @@
--- The color indexing transform (RFC 9649, "Color Indexing Transform"; document 01, module 4). `size` is how many entries the table has, `e` gives them.
+-- The color indexing transform (RFC 9649, "Color Indexing Transform"; document 01, module 4). `size` is how many entries
+-- the table has, `e` gives them.
 use mathlib.Core.Bool.{Bool}
 use Prim.Native.Nat.{ℕ, zero, suc, _+_, _*_, _/_, _%_, _^_}
 use lib.Dec.{leb, ltb}
@@ -11,7 +12,8 @@ use Rattle.format.specs.Picture.{Picture, ceiling}
 unfoldable pub perPixel : ℕ → ℕ
 perPixel size = if leb size 2 then 8 else if leb size 4 then 4 else if leb size 16 then 2 else 1
 
--- how many bits an index has where a packed pixel holds n: 8 >> width_bits in the RFC's terms; and one more than the largest index
+-- how many bits an index has where a packed pixel holds n, 8 >> width_bits in the RFC's terms; and one more than the
+-- largest index
 abbrev pub indexBits : ℕ → ℕ
 indexBits n = 8 / n
 
@@ -34,7 +36,9 @@ entry size e i = if ltb i size then e i else clear
 
 -- column x of row y: its packed pixel is number x / n of the row, and byte 1 of that holds its index at x % n
 abbrev pub unpackedAt : ℕ → ℕ → Picture → Picture → ℕ → ℕ → Pixel
-unpackedAt w size e g x y = entry size e (indexIn (perPixel size) (g (y * packedWidth size w + x / perPixel size) .green) (x % perPixel size))
+unpackedAt w size e g x y =
+    let n = perPixel size in
+    entry size e (indexIn n (g (y * packedWidth size w + x / n) .green) (x % n))
 
 unfoldable pub unpacked : ℕ → ℕ → Picture → Picture → Picture
 unpacked w size e g q = unpackedAt w size e g (q % w) (q / w)

@@ -7,13 +7,11 @@ use Rattle.format.specs.Indices.{howMany}
 use Rattle.format.specs.declared.Pixel.{Pixel}
 use Rattle.format.specs.declared.Made.the-variants.{Missing}
 use Rattle.format.specs.Picture.{Picture}
-use Rattle.format.specs.Chain.{count, stepAt}
 use Rattle.format.specs.Refusals.{_before_, _unless_, accepted}
-use Rattle.format.specs.Stages.{stored, accepts}
 use Rattle.format.specs.Made.{madeNumber}
 use Rattle.format.specs.Lists.{Machine}
 use Rattle.format.specs.Retouch.{differ, marks, maskOf, answer}
-use Rattle.format.specs.Calls.{records, inside, painted, touched, retouchAnswer, retouchPicture, retouchStrip}
+use Rattle.format.specs.Calls.{records, stripOf, storable, inside, painted, touched, retouchAnswer, retouchPicture, retouchStrip}
 
 -- what the calls of a list differ in: the point and its color
 pub record Retouch : Type 0 where
@@ -34,12 +32,12 @@ module _ (w h : ℕ) (cs ds : List ℕ) where
   -- the desk stores the picture f that it holds, and f with the point painted, and compares
   module _ (f : Picture) (c : Retouch) where
     abbrev pub differing : ℕ → Bool
-    differing = differ (records w h cs) (stored (stepAt cs w) ds (count cs) f) (stored (stepAt cs w) ds (count cs) (paintedBy w f c))
+    differing = differ (records w h cs) (stripOf w h cs ds f) (stripOf w h cs ds (paintedBy w f c))
 
     unfoldable pub deskAnswer : ℕ
     deskAnswer =
         (9 unless inside w h (c .x) (c .y))
-        before (madeNumber Missing unless accepts (stepAt cs w) h ds (count cs) (paintedBy w f c))
+        before (madeNumber Missing unless storable w h cs ds (paintedBy w f c))
         before answer (howMany (records w h cs) differing) (maskOf (marks differing [] (touched w cs (c .x) (c .y))))
 
     unfoldable pub deskHolds : Picture

@@ -1,4 +1,5 @@
--- What the items of a stage are made of, and when one cannot be made (document 01, refusal 22). An item is a pixel of a picture or a record of a strip.
+-- What the items of a stage are made of, and when one cannot be made (document 01, refusal 22). An item is a pixel of a
+-- picture or a record of a strip.
 use mathlib.Core.Bool.{Bool, true, false, not, _||_}
 use mathlib.Core.List.{List, [], _∷_}
 use Prim.Native.Nat.{ℕ, zero, suc, _+_, _*_, _/_, _%_}
@@ -54,8 +55,11 @@ columns w y (suc n) x = if ltb x w then (y * w + x) ∷ columns w y n (suc x) el
 -- the items that a record looks at to make item r
 unfoldable pub madeOf : Step → List ℕ → ℕ → List ℕ
 madeOf s ds r =
-    byKind (s .kind) (r ∷ named (s .width) (s .bits) (partOf s ds) (r % s .width) (r / s .width)) (r ∷ []) (r ∷ [])
-    (columns (s .width) (r / packedWidth (s .size) (s .width)) (perPixel (s .size)) (r % packedWidth (s .size) (s .width) * perPixel (s .size)))
+    let w = s .width in
+    let v = packedWidth (s .size) w in
+    let n = perPixel (s .size) in
+    byKind (s .kind) (r ∷ named w (s .bits) (partOf s ds) (r % w) (r / w)) (r ∷ []) (r ∷ [])
+    (columns w (r / v) n (r % v * n))
 
 -- a record takes an item: a table those that have an entry
 unfoldable pub takesItem : Step → List ℕ → Pixel → Bool
@@ -64,7 +68,12 @@ takesItem s ds v = if eqb (s .kind) 3 then hasEntry (s .size) (partOf s ds) v el
 -- item r after the first k records cannot be made of the picture f: an item that it is made of cannot, or is not taken
 unfoldable pub missing : (ℕ → Step) → List ℕ → ℕ → Picture → ℕ → Bool
 missing steps ds zero f r = false
-missing steps ds (suc k) f r = some (λ q. missing steps ds k f q || not (takesItem (steps k) ds (stored steps ds k f q))) (madeOf (steps k) ds r)
+missing steps ds (suc k) f r =
+    some (λ q. missing steps ds k f q || not (takesItem (steps k) ds (stored steps ds k f q))) (madeOf (steps k) ds r)
+
+-- record k makes nothing of item q: it cannot be made, or is not taken
+abbrev pub lost : (ℕ → Step) → List ℕ → ℕ → Picture → ℕ → Bool
+lost steps ds k f q = missing steps ds k f q || not (takesItem (steps k) ds (stored steps ds k f q))
 
 -- the item v, unless it is missing
 unfoldable pub made : Bool → Pixel → Made

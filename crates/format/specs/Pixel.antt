@@ -20,8 +20,10 @@ each h u v = pixel (h (u .red) (v .red)) (h (u .green) (v .green)) (h (u .blue) 
 
 unfoldable pub each3 : (ℕ → ℕ → ℕ → ℕ) → Pixel → Pixel → Pixel → Pixel
 each3 h u v t =
-    pixel (h (u .red) (v .red) (t .red)) (h (u .green) (v .green) (t .green)) (h (u .blue) (v .blue) (t .blue)) (h (u .alpha) (v .alpha) (t .alpha))
+    pixel (h (u .red) (v .red) (t .red)) (h (u .green) (v .green) (t .green)) (h (u .blue) (v .blue) (t .blue))
+    (h (u .alpha) (v .alpha) (t .alpha))
 
 -- alike in all four bytes
 abbrev pub equal : Pixel → Pixel → Bool
-equal u v = (eqb (u .red) (v .red) && eqb (u .green) (v .green)) && (eqb (u .blue) (v .blue) && eqb (u .alpha) (v .alpha))
+equal u v =
+    (eqb (u .red) (v .red) && eqb (u .green) (v .green)) && (eqb (u .blue) (v .blue) && eqb (u .alpha) (v .alpha))

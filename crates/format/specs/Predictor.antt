@@ -9,7 +9,8 @@ use Rattle.format.specs.Byte.{add, sub, avg, distance, clampFull, clampH
 use Rattle.format.specs.Pixel.{black, clear, each, each3}
 use Rattle.format.specs.Picture.{Picture, block, inOrder}
 
--- the sum over four channels of |p - u|, where p = l + t - tl: `tl` stands on the other side, so that no number is negative
+-- the sum over four channels of |p - u|, where p = l + t - tl: `tl` stands on the other side, so that no number is
+-- negative
 abbrev pub distanceTo : Pixel → Pixel → Pixel → Pixel → ℕ
 distanceTo u l t tl =
     distance (l .red + t .red) (tl .red + u .red) + distance (l .green + t .green) (tl .green + u .green)
@@ -57,8 +58,8 @@ module _ {P : Type 0} (w : ℕ) (f : ℕ → P) (x y : ℕ) where
   abbrev pub topLeft : P
   topLeft = f ((y - 1) * w + (x - 1))
 
-  -- TR of the last column is column 0 of the same row. At width 2 that is L. At width 1 every pixel is on a border, and no mode is used
-  -- (proofs/Predictor.antt, widths 1 and 2)
+  -- TR of the last column is column 0 of the same row. At width 2 that is L. At width 1 every pixel is on a border, and
+  -- no mode is used (proofs/Predictor.antt, widths 1 and 2)
   abbrev pub topRight : P
   topRight = if eqb (x + 1) w then f (y * w) else f ((y - 1) * w + (x + 1))
 
@@ -66,7 +67,8 @@ module _ {P : Type 0} (w : ℕ) (f : ℕ → P) (x y : ℕ) where
 abbrev pub mode : ℕ → ℕ → Picture → ℕ → ℕ → ℕ
 mode w bits d x y = block w bits d x y .green
 
--- the prediction of column x of row y: the first pixel as mode 0, the rest of row 0 as L, the rest of column 0 as T, whatever the mode
+-- the prediction of column x of row y: the first pixel as mode 0, the rest of row 0 as L, the rest of column 0 as T,
+-- whatever the mode
 unfoldable pub predicted : ℕ → ℕ → Picture → Picture → ℕ → ℕ → Pixel
 predicted w bits d f x y =
     if eqb y 0 then (if eqb x 0 then black else left w f x y)

@@ -1,20 +1,19 @@
 -- What is promised: the demands of document 00, on the bytes of the calls. They are proved in proofs/Demands.antt.
 use mathlib.Core.Bool.{Bool, true, false, _&&_}
 use mathlib.Core.List.{List}
-use mathlib.Core.Logic.{_⊎_}
+use mathlib.Core.Logic.{_⊎_, _↔_}
 use mathlib.Core.Path.{_≡_}
 use Prim.Native.Nat.{ℕ, _*_, _<_, _≤_}
 use lib.Count as Count
 use lib.ListN.{length}
 use Rattle.format.specs.Indices.{howMany}
 use Rattle.format.specs.declared.Pixel.{Pixel}
-use Rattle.format.specs.Picture.{byteAt, pixels, written}
+use Rattle.format.specs.Picture.{Picture, byteAt, pixels, written}
 use Rattle.format.specs.ColorMap.{colorMapAnswer, adjustColorMap, unadjustColorMap}
-use Rattle.format.specs.Chain.{stepAt, count}
-use Rattle.format.specs.Refusals.{accepted}
-use Rattle.format.specs.Stages.{accepts}
+use Rattle.format.specs.Chain.{count}
+use Rattle.format.specs.Refusals.{accepted, sizeRefusal, ValidChain}
 use Rattle.format.specs.Retouch.{differ, answer}
-use Rattle.format.specs.Calls.{records, rebuildAnswer, rebuildImage, storeAnswer, storeStrip, inside, retouchAnswer, retouchPicture, retouchStrip}
+use Rattle.format.specs.Calls.{records, storable, rebuildAnswer, rebuildImage, storeAnswer, storeStrip, inside, retouchAnswer, retouchPicture, retouchStrip}
 use Rattle.format.specs.Lists.{inTurn, leftBy, answersTo, acceptedCalls}
 use Rattle.format.specs.Desk.{Retouch, Buffers, paintedBy, desk, callAnswer, callLeaves, call}
 
@@ -40,21 +39,46 @@ module _ (w h : ℕ) (cs ds : List ℕ) where
   RebuildingAnswers = (image : List ℕ) → rebuildAnswer w h cs ds image ≤ 8
 
   abbrev pub StoringAnswers : Type 0
-  StoringAnswers = (picture strip : List ℕ) → (storeAnswer w h cs ds picture strip ≤ 8) ⊎ (storeAnswer w h cs ds picture strip ≡ 21)
+  StoringAnswers = (picture strip : List ℕ)
+      → (storeAnswer w h cs ds picture strip ≤ 8) ⊎ (storeAnswer w h cs ds picture strip ≡ 21)
 
   abbrev pub RetouchingAnswers : Type 0
-  RetouchingAnswers = (picture strip : List ℕ) (x y : ℕ) (v : Pixel) → RetouchNumber (retouchAnswer w h cs ds picture strip x y v)
+  RetouchingAnswers = (picture strip : List ℕ) (x y : ℕ) (v : Pixel)
+      → RetouchNumber (retouchAnswer w h cs ds picture strip x y v)
 
   -- demand 1: a refusal changes no byte
   abbrev pub RebuildingRefused : Type 0
-  RebuildingRefused = (image : List ℕ) → accepted (rebuildAnswer w h cs ds image) ≡ false → rebuildImage w h cs ds image ≡ image
+  RebuildingRefused = (image : List ℕ)
+      → accepted (rebuildAnswer w h cs ds image) ≡ false
+      → rebuildImage w h cs ds image ≡ image
 
   abbrev pub StoringRefused : Type 0
-  StoringRefused = (picture strip : List ℕ) → accepted (storeAnswer w h cs ds picture strip) ≡ false → storeStrip w h cs ds picture strip ≡ strip
+  StoringRefused = (picture strip : List ℕ)
+      → accepted (storeAnswer w h cs ds picture strip) ≡ false
+      → storeStrip w h cs ds picture strip ≡ strip
 
   abbrev pub RetouchingRefused : Type 0
-  RetouchingRefused = (picture strip : List ℕ) (x y : ℕ) (v : Pixel) → accepted (retouchAnswer w h cs ds picture strip x y v) ≡ false
+  RetouchingRefused = (picture strip : List ℕ) (x y : ℕ) (v : Pixel)
+      → accepted (retouchAnswer w h cs ds picture strip x y v) ≡ false
       → (retouchPicture w h cs ds picture strip x y v ≡ picture) × (retouchStrip w h cs ds picture strip x y v ≡ strip)
+
+  -- what is accepted, exactly: 1 does not apply, the chain is valid, the buffers have room and, where storing, each pixel
+  -- that reaches the table has an entry
+  abbrev pub Admitted : Type 0
+  Admitted = (sizeRefusal w h ≡ 0) × ValidChain w h cs ds
+
+  abbrev pub RebuildingExactly : Type 0
+  RebuildingExactly = (image : List ℕ)
+      → (rebuildAnswer w h cs ds image ≡ 0) ↔ (Admitted × (4 * (h * w) ≤ length image))
+
+  -- room for a picture and its strip
+  abbrev pub Room : List ℕ → List ℕ → Type 0
+  Room picture strip = (4 * (h * w) ≤ length picture) × (4 * records w h cs ≤ length strip)
+
+  abbrev pub StoringExactly : Type 0
+  StoringExactly = (picture strip : List ℕ)
+      → (storeAnswer w h cs ds picture strip ≡ 0)
+      ↔ (Admitted × Room picture strip × (storable w h cs ds (pixels picture) ≡ true))
 
   -- demand 2: rebuilding a stored picture gives that picture, every byte beyond kept
   abbrev pub RebuildsStored : Type 0
@@ -70,23 +94,29 @@ module _ (w h : ℕ) (cs ds : List ℕ) where
       → rebuildAnswer w h cs ds image ≡ 0
       → 4 * (h * w) ≤ length picture → 4 * (h * w) ≤ length strip
       → SameFront (h * w) picture (rebuildImage w h cs ds image)
-      → (storeAnswer w h cs ds picture strip ≡ 0) × (storeStrip w h cs ds picture strip ≡ written (h * w) (pixels image) strip)
+      → (storeAnswer w h cs ds picture strip ≡ 0)
+      × (storeStrip w h cs ds picture strip ≡ written (h * w) (pixels image) strip)
 
   -- demand 3: a valid chain, a picture that storing accepts, and the strip that storing makes of it
   abbrev pub StoredPair : Buffers → Type 0
-  StoredPair b = (storeAnswer w h cs ds (b .picture) (b .strip) ≡ 0) × (storeStrip w h cs ds (b .picture) (b .strip) ≡ b .strip)
+  StoredPair b =
+      (storeAnswer w h cs ds (b .picture) (b .strip) ≡ 0)
+      × (storeStrip w h cs ds (b .picture) (b .strip) ≡ b .strip)
 
   -- how many records of the strip differ before and after a call
   abbrev pub changedBy : Buffers → Retouch → ℕ
-  changedBy b c = howMany (records w h cs) (differ (records w h cs) (pixels (b .strip)) (pixels (callLeaves w h cs ds b c .strip)))
+  changedBy b c =
+      let n = records w h cs in
+      howMany n (differ n (pixels (b .strip)) (pixels (callLeaves w h cs ds b c .strip)))
 
-  -- a call is accepted exactly when its point is inside and storing accepts the picture with it painted; it changes at most five
-  -- records, and its count is how many
+  -- a call is accepted exactly when its point is inside and storing accepts the picture with it painted; it changes at
+  -- most five records, and its count is how many
   pub record OneCall (b : Buffers) (c : Retouch) : Type 0 where
     pub exactly : accepted (callAnswer w h cs ds b c)
-        ≡ (inside w h (c .x) (c .y) && accepts (stepAt cs w) h ds (count cs) (paintedBy w (pixels (b .picture)) c))
+        ≡ (inside w h (c .x) (c .y) && storable w h cs ds (paintedBy w (pixels (b .picture)) c))
     pub few : changedBy b c ≤ 5
-    pub counted : accepted (callAnswer w h cs ds b c) ≡ true → (mask : ℕ) × (mask < 32) × (callAnswer w h cs ds b c ≡ answer (changedBy b c) mask)
+    pub counted : accepted (callAnswer w h cs ds b c) ≡ true
+        → (mask : ℕ) × (mask < 32) × (callAnswer w h cs ds b c ≡ answer (changedBy b c) mask)
 
   module _ (b : Buffers) (calls : List Retouch) where
     abbrev pub answered : List ℕ
@@ -95,13 +125,16 @@ module _ (w h : ℕ) (cs ds : List ℕ) where
     abbrev pub left : Buffers
     left = leftBy (call w h cs ds) b calls
 
-    -- after a list of calls: every answer is the desk's; the picture is the first one with the accepted retouches painted in order,
-    -- which is the desk's; the strip is that picture stored afresh; bytes beyond are those of the start; and what holds of one call
-    -- holds of whichever is next
+    abbrev pub paintedInTurn : Picture
+    paintedInTurn = inTurn (paintedBy w) (pixels (b .picture)) (acceptedCalls answered calls)
+
+    -- after a list of calls: every answer is the desk's; the picture is the first one with the accepted retouches painted
+    -- in order, which is the desk's; the strip is that picture stored afresh; bytes beyond are those of the start; and
+    -- what holds of one call holds of whichever is next
     pub record AfterRetouches : Type 0 where
       pub answers : answered ≡ answersTo (desk w h cs ds) (pixels (b .picture)) calls
-      pub picture : left .picture ≡ written (h * w) (inTurn (paintedBy w) (pixels (b .picture)) (acceptedCalls answered calls)) (b .picture)
-      pub deskPicture : left .picture ≡ written (h * w) (leftBy (desk w h cs ds) (pixels (b .picture)) calls) (b .picture)
+      pub picture : left .picture ≡ written (h * w) paintedInTurn (b .picture)
+      pub held : paintedInTurn ≡ leftBy (desk w h cs ds) (pixels (b .picture)) calls
       pub stored : storeAnswer w h cs ds (left .picture) (b .strip) ≡ 0
       pub strip : left .strip ≡ storeStrip w h cs ds (left .picture) (b .strip)
       pub next : (c : Retouch) → OneCall left c
@@ -115,4 +148,6 @@ abbrev pub ColorMapAnswers : Type 0
 ColorMapAnswers = (map : List ℕ) → (colorMapAnswer map ≡ 0) ⊎ (colorMapAnswer map ≡ 10)
 
 abbrev pub ColorMapRefused : Type 0
-ColorMapRefused = (map : List ℕ) → accepted (colorMapAnswer map) ≡ false → (adjustColorMap map ≡ map) × (unadjustColorMap map ≡ map)
+ColorMapRefused = (map : List ℕ)
+    → accepted (colorMapAnswer map) ≡ false
+    → (adjustColorMap map ≡ map) × (unadjustColorMap map ≡ map)

@@ -2,6 +2,7 @@
 -- cs is the chain, w and h the picture's width and height, ds the data.
 use mathlib.Core.Bool.{Bool, not, _&&_, _||_}
 use mathlib.Core.List.{List}
+use mathlib.Core.Path.{_≡_}
 use Prim.Native.Nat.{ℕ, zero, suc, _+_, _*_, _%_, _^_}
 use lib.Dec.{eqb, leb, ltb}
 use lib.ListN.{length}
@@ -72,7 +73,8 @@ accepted n = eqb n 0 || leb 256 n
 -- the refusal of the first k records
 unfoldable pub recordsRefusal : List ℕ → ℕ → ℕ → List ℕ → ℕ → ℕ
 recordsRefusal cs w h ds zero = 0
-recordsRefusal cs w h ds (suc k) = recordsRefusal cs w h ds k before number (checked (usedBefore cs k) h ds (stepAt cs w k))
+recordsRefusal cs w h ds (suc k) =
+    recordsRefusal cs w h ds k before number (checked (usedBefore cs k) h ds (stepAt cs w k))
 
 abbrev pub inRange : ℕ → Bool
 inRange x = leb 1 x && leb x 16384
@@ -84,9 +86,13 @@ wholeRecords cs = eqb (length cs % 16) 0 && leb (length cs) 64
 unfoldable pub sizeRefusal : ℕ → ℕ → ℕ
 sizeRefusal w h = 1 unless (inRange w && inRange h)
 
--- refusals 2 to 7. A chain is valid, for its width, height and data, if none of them applies
+-- refusals 2 to 7
 unfoldable pub chainRefusal : ℕ → ℕ → List ℕ → List ℕ → ℕ
 chainRefusal w h cs ds = (2 unless wholeRecords cs) before recordsRefusal cs w h ds (count cs)
+
+-- a chain is valid, for its width, height and data, if none of them applies
+abbrev pub ValidChain : ℕ → ℕ → List ℕ → List ℕ → Type 0
+ValidChain w h cs ds = chainRefusal w h cs ds ≡ 0
 
 -- refusals 1 to 7
 unfoldable pub inputRefusal : ℕ → ℕ → List ℕ → List ℕ → ℕ

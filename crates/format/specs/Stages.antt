@@ -22,13 +22,15 @@ partOf s ds = pixels (dataOf s ds)
 
 unfoldable pub forward : Step → List ℕ → Picture → Picture
 forward s ds f =
-    byKind (s .kind) (residuals (s .width) (s .bits) (partOf s ds) f) (colorStored (s .width) (s .bits) (partOf s ds) f) (greenStored f)
-    (packed (s .width) (s .size) (partOf s ds) f)
+    let d = partOf s ds in
+    byKind (s .kind) (residuals (s .width) (s .bits) d f) (colorStored (s .width) (s .bits) d f) (greenStored f)
+    (packed (s .width) (s .size) d f)
 
 unfoldable pub backward : Step → ℕ → List ℕ → Picture → Picture
 backward s h ds g =
-    byKind (s .kind) (fromResiduals (s .width) (s .bits) (partOf s ds) (h * s .width) g) (colorRebuilt (s .width) (s .bits) (partOf s ds) g) (greenRebuilt g)
-    (unpacked (s .width) (s .size) (partOf s ds) g)
+    let d = partOf s ds in
+    byKind (s .kind) (fromResiduals (s .width) (s .bits) d (h * s .width) g) (colorRebuilt (s .width) (s .bits) d g)
+    (greenRebuilt g) (unpacked (s .width) (s .size) d g)
 
 -- a record takes a picture: every pixel that reaches a table has an entry
 unfoldable pub takes : Step → ℕ → List ℕ → Picture → Bool

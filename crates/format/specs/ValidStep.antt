@@ -1,4 +1,5 @@
--- A record that passes tests 3 to 7, as facts: its bits, size and length by its kind, its part inside n bytes of data. h is the picture's height.
+-- A record that passes tests 3 to 7, as facts: its bits, size and length by its kind, its part inside n bytes of data.
+-- h is the picture's height.
 use mathlib.Core.Path.{_≡_}
 use Prim.Native.Nat.{ℕ, _+_, _*_, _≤_}
 use Rattle.format.specs.declared.Step.{Step}

@@ -16,14 +16,14 @@ use Rattle.format.specs.Color.{transformColor, colorStored}
 use Rattle.format.specs.SubtractGreen.{subtractGreen, greenStored}
 use Rattle.format.specs.ColorTable.{perPixel, range, packedWidth, hasEntry, packed}
 use Rattle.format.specs.Stages.{partOf, stored}
-use Rattle.format.specs.Made.{named, madeOf, takesItem, missing, made, madeItem}
+use Rattle.format.specs.Made.{named, madeOf, takesItem, missing, lost, made, madeItem}
 use Rattle.format.proofs.ByKind.{byKind-0, byKind-1, byKind-2, byKind-3, forward-0, forward-1, forward-2, forward-3}
 use Rattle.format.specs.declared.Made.{Made}
 use Rattle.format.specs.declared.Made.the-variants.{Item}
 use Rattle.item.specs.declared.place.Place.{Place}
 use Rattle.item.specs.Made.{mapped, residualMade}
 use Rattle.item.specs.Neighbors.{neighborMade, modeOf, blockOf}
-use Rattle.item.specs.Table.{lacks, recordFrom, recordMade, joinedMade, Room}
+use Rattle.item.specs.Table.{recordFrom, recordMade, joinedMade, Room}
 use Rattle.item.proofs.WhenMade.{mapped-made}
 use Rattle.item.proofs.Named.{residual-stage}
 use Rattle.item.proofs.Columns.{columns-more, columns-room}
@@ -56,27 +56,27 @@ module _ (steps : ℕ → Step) (ds : List ℕ) (k : ℕ) (f : Picture) where
   abbrev neighbor : ℕ → ℕ → Place → Made
   neighbor = neighborMade steps ds k f
 
-  missing-by : (r : ℕ) → missing steps ds (suc k) f r ≡ some (lacks steps ds k f) (madeOf s ds r)
-  unfolding missing lacks
+  missing-by : (r : ℕ) → missing steps ds (suc k) f r ≡ some (lost steps ds k f) (madeOf s ds r)
+  unfolding missing
   missing-by r = refl
 
   -- a record that is no table takes every item
-  lacks-other : (s .kind ≡ 3 → ⊥) → (q : ℕ) → lacks steps ds k f q ≡ was q
-  unfolding lacks takesItem
-  lacks-other n q = rw (ne-eqb (s .kind) 3 n) (or-false (was q))
+  lost-other : (s .kind ≡ 3 → ⊥) → (q : ℕ) → lost steps ds k f q ≡ was q
+  unfolding takesItem
+  lost-other n q = rw (ne-eqb (s .kind) 3 n) (or-false (was q))
 
-  lacks-table : s .kind ≡ 3 → (q : ℕ) → lacks steps ds k f q ≡ (was q || not (hasEntry (s .size) (partOf s ds) (before q)))
-  unfolding lacks takesItem
-  lacks-table e q = rw e
+  lost-table : s .kind ≡ 3 → (q : ℕ) → lost steps ds k f q ≡ (was q || not (hasEntry (s .size) (partOf s ds) (before q)))
+  unfolding takesItem
+  lost-table e q = rw e
 
   missing-alone : (s .kind ≡ 3 → ⊥) → (r : ℕ) → madeOf s ds r ≡ (r ∷ []) → missing steps ds (suc k) f r ≡ was r
-  missing-alone n r e = missing-by r ∙ some-same _ _ (lacks-other n) (madeOf s ds r) ∙ ap (some was) e ∙ or-false (was r)
+  missing-alone n r e = missing-by r ∙ some-same _ _ (lost-other n) (madeOf s ds r) ∙ ap (some was) e ∙ or-false (was r)
 
   made-0 : s .kind ≡ 0 → (r : ℕ) → made (was r || some was (named (s .width) (s .bits) (partOf s ds) (r % s .width) (r / s .width))) (each sub (before r) (predicted (s .width) (s .bits) (partOf s ds) before (r % s .width) (r / s .width)))
       ≡ next r
   unfolding madeOf stored residuals
   made-0 e r =
-      let m = missing-by r ∙ some-same _ _ (lacks-other (λ z. omega arith)) (madeOf s ds r) ∙ ap (some was) (byKind-0 _ _ _ _ (s .kind) e) in
+      let m = missing-by r ∙ some-same _ _ (lost-other (λ z. omega arith)) (madeOf s ds r) ∙ ap (some was) (byKind-0 _ _ _ _ (s .kind) e) in
       rw (m, forward-0 s ds before e)
 
   -- by an item and the neighbors that were asked for
@@ -101,15 +101,15 @@ module _ (steps : ℕ → Step) (ds : List ℕ) (k : ℕ) (f : Picture) where
       → recordMade steps ds k f y n (x * n) ≡ next r
   unfolding madeOf stored packed recordFrom
   made-3 e r p n x y a b c d =
-      let m = missing-by r ∙ ap (some (lacks steps ds k f)) (byKind-3 _ _ _ _ (s .kind) e) in
+      let m = missing-by r ∙ ap (some (lost steps ds k f)) (byKind-3 _ _ _ _ (s .kind) e) in
       rw (c, d, a, b, m, forward-3 s ds before e)
 
   pub record-next : s .kind ≡ 3 → (y n m x : ℕ) (r first rest : Made) → n ≡ suc m → x < s .width → r ≡ joinedMade (s .size) (partOf s ds) first rest
       → first ≡ item (y * s .width + x) → rest ≡ recordMade steps ds k f y m (x + 1) → r ≡ recordMade steps ds k f y n x
-  record-next e y = columns-more (s .width) (s .size) (partOf s ds) before y (lacks steps ds k f) was (lacks-table e)
+  record-next e y = columns-more (s .width) (s .size) (partOf s ds) before y (lost steps ds k f) was (lost-table e)
 
   pub record-room : s .kind ≡ 3 → s .size ≤ 256 → (y n x : ℕ) (rest : Made) → rest ≡ recordMade steps ds k f y n x → n < perPixel (s .size) → Room (s .size) rest
-  record-room e small y n x rest q l p a = columns-room (s .width) (s .size) (partOf s ds) before y (lacks steps ds k f) was (lacks-table e) small n x l p (sym q ∙ a)
+  record-room e small y n x rest q l p a = columns-room (s .width) (s .size) (partOf s ds) before y (lost steps ds k f) was (lost-table e) small n x l p (sym q ∙ a)
 
 -- the stage that the code counts to
 module _ (steps : ℕ → Step) (ds : List ℕ) (k : ℕ) (f : Picture) (q : ℕ) where

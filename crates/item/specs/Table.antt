@@ -1,5 +1,4 @@
 -- Records of indices, column by column.
-use mathlib.Core.Bool.{Bool, not, _||_}
 use mathlib.Core.List.{List}
 use mathlib.Core.Path.{_≡_}
 use Prim.Native.Nat.{ℕ, _+_, _*_, _≤_}
@@ -14,12 +13,8 @@ use Rattle.format.specs.ColorTable.{perPixel, range, indexOf, hasEntry, indexAt
 use Rattle.format.specs.ValidStep.{ValidTable}
 use Rattle.format.specs.Stages.{partOf, stored}
 use Rattle.format.specs.Indices.{some}
-use Rattle.format.specs.Made.{columns, missing, takesItem, made}
+use Rattle.format.specs.Made.{columns, lost, made}
 use Rattle.item.specs.Made.{whenMade}
-
--- record k makes nothing of item q: it cannot be made, or is not taken
-unfoldable pub lacks : (ℕ → Step) → List ℕ → ℕ → Picture → ℕ → Bool
-lacks steps ds k f q = missing steps ds k f q || not (takesItem (steps k) ds (stored steps ds k f q))
 
 -- the record of n columns of row y, from x on
 unfoldable pub recordFrom : ℕ → ℕ → Picture → Picture → ℕ → ℕ → ℕ → Pixel
@@ -28,7 +23,7 @@ recordFrom w size e f y n x = pixel 0 (digits (range (perPixel size)) n (λ k. i
 -- what making that record by the table that is record k gives
 abbrev pub recordMade : (ℕ → Step) → List ℕ → ℕ → Picture → ℕ → ℕ → ℕ → Made
 recordMade steps ds k f y n x =
-    made (some (lacks steps ds k f) (columns (steps k .width) y n x))
+    made (some (lost steps ds k f) (columns (steps k .width) y n x))
     (recordFrom (steps k .width) (steps k .size) (partOf (steps k) ds) (stored steps ds k f) y n x)
 
 -- the record of a column and of those after it, by the record of these

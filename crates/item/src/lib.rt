@@ -30,7 +30,7 @@ ghost use mathlib.Core.Path.{_≡_};
 ghost use Prim.Native.Nat.{suc, _+_, _*_, _<_, _≤_};
 ghost use lib.ListN.{length};
 ghost use Rattle.format.specs.ColorTable.{perPixel};
-ghost use Rattle.format.specs.Made.{madeItem};
+ghost use Rattle.format.specs.Made.{madeItem, madeNumber};
 ghost use Rattle.chain.specs.Valid.{stepsOf};
 ghost use Rattle.item.specs.Neighbors.{neighborMade};
 ghost use Rattle.item.specs.Source.{shown, itemsAfter, Source};
@@ -40,6 +40,16 @@ ghost use Rattle.item.specs.Table.{recordMade};
 pub struct Point {
     pub index: usize,
     pub color: Pixel,
+}
+
+// The number of the refusal; 0 where the item is made.
+pub fn refusal(made: Made) -> u32
+    ensures { λ r. ⌜ r ≡ madeNumber made ⌝ }
+{
+    match made {
+        Made::Item(_) => 0,
+        Made::Missing => 22,
+    }
 }
 
 // Pixel q of the picture, where the point is painted.

@@ -31,7 +31,7 @@ pub fn packed_place(q: usize, row: Packed) -> Place
 
 // The packed pixel at column x of row y.
 pub fn packed_index(x: usize, y: usize, row: Packed) -> usize
-    requires { ⌜ (y * row .0 ≤ 268435456) × (x ≤ 268435456) ⌝ }
+    requires { ⌜ y * row .0 + x < 18446744073709551616 ⌝ }
     ensures { λ r. ⌜ r ≡ y * row .0 + x ⌝ }
 {
     y * row.0 + x

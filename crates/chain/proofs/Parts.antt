@@ -9,7 +9,7 @@ use Rattle.format.specs.declared.Step.{Step}
 use Rattle.format.specs.Picture.{Picture, written}
 use Rattle.format.specs.Sizes.{Blocked}
 use Rattle.format.specs.ValidStep.{ValidStep}
-use Rattle.chain.specs.Reading.{dataOf}
+use Rattle.format.specs.Stages.{dataOf}
 
 module _ (s : Step) (h : ℕ) (ds : List ℕ) (valid : ValidStep s h (length ds)) (part : List ℕ) (e : part ≡ dataOf s ds) where
   pub part-length : length part ≡ s .length

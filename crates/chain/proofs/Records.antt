@@ -11,7 +11,7 @@ use lib.Seq.{getD-set-other, getD-set-same}
 use Rattle.format.specs.declared.Step.{Step}
 use Rattle.format.specs.declared.Checked.{Checked}
 use Rattle.format.specs.Chain.{recordAt, stepAt, widthAt, narrowed, count}
-use Rattle.format.specs.Refusals.{usedBefore, checked, number, recordsRefusal, chainRefusal}
+use Rattle.format.specs.Refusals.{usedBefore, checked, number, recordsRefusal, inputRefusal}
 use Rattle.format.proofs.Valid.{records-next, refusal-lasts}
 use Rattle.format.proofs.Stages.{width-record, widthAt-fewer}
 use Rattle.chain.specs.declared.Chain.{Chain}
@@ -19,32 +19,32 @@ use Rattle.chain.specs.Valid.{noStep}
 use Rattle.chain.specs.Reading.{StepsTo, ChainOf, Read}
 use Rattle.chain.proofs.Valid.{valid-of}
 
-module _ (cs : List ℕ) (w h n k x : ℕ) (s : Step) (a : Bool) (c : Checked) (r : ℕ) where
+module _ (cs : List ℕ) (w h : ℕ) (ds : List ℕ) (k x : ℕ) (s : Step) (a : Bool) (c : Checked) (r : ℕ) where
   -- what the turn learns
   pub record Turn : Type 0 where
-    pub before : recordsRefusal cs w h n k ≡ 0
+    pub before : recordsRefusal cs w h ds k ≡ 0
     pub width : x ≡ widthAt cs w k
     pub fields : s ≡ recordAt cs k x
     pub again : a ≡ usedBefore cs k
-    pub found : c ≡ checked a h n s
+    pub found : c ≡ checked a h ds s
     pub answer : r ≡ number c
 
-  pub turn : recordsRefusal cs w h n k ≡ 0 → x ≡ widthAt cs w k → s ≡ recordAt cs k x → a ≡ usedBefore cs k → c ≡ checked a h n s → r ≡ number c → Turn
+  pub turn : recordsRefusal cs w h ds k ≡ 0 → x ≡ widthAt cs w k → s ≡ recordAt cs k x → a ≡ usedBefore cs k → c ≡ checked a h ds s → r ≡ number c → Turn
   turn b x f u d m = record { before = b; width = x; fields = f; again = u; found = d; answer = m }
 
-  record-number : Turn → recordsRefusal cs w h n (suc k) ≡ r
+  record-number : Turn → recordsRefusal cs w h ds (suc k) ≡ r
   record-number t =
-      let e : checked (usedBefore cs k) h n (stepAt cs w k) ≡ c = rw (← t .width, ← t .fields, ← t .again) (sym (t .found)) in
-      records-next cs w h n k (t .before) ∙ ap number e ∙ sym (t .answer)
+      let e : checked (usedBefore cs k) h ds (stepAt cs w k) ≡ c = rw (← t .width, ← t .fields, ← t .again) (sym (t .found)) in
+      records-next cs w h ds k (t .before) ∙ ap number e ∙ sym (t .answer)
 
-  pub record-passed : Turn → r ≡ 0 → recordsRefusal cs w h n (k + 1) ≡ 0
+  pub record-passed : Turn → r ≡ 0 → recordsRefusal cs w h ds (k + 1) ≡ 0
   record-passed t e = let j : k + 1 ≡ suc k = omega arith in rw j (record-number t ∙ e)
 
-  pub record-refused : Turn → (r ≡ 0 → ⊥) → k < count cs → r ≡ recordsRefusal cs w h n (count cs)
+  pub record-refused : Turn → (r ≡ 0 → ⊥) → k < count cs → r ≡ recordsRefusal cs w h ds (count cs)
   record-refused t d l = let e = record-number t in e′ e (λ z. d (sym e ∙ z))
     where
-      e′ : recordsRefusal cs w h n (suc k) ≡ r → (recordsRefusal cs w h n (suc k) ≡ 0 → ⊥) → r ≡ recordsRefusal cs w h n (count cs)
-      e′ e z = sym e ∙ sym (refusal-lasts cs w h n (suc k) (count cs) l z)
+      e′ : recordsRefusal cs w h ds (suc k) ≡ r → (recordsRefusal cs w h ds (suc k) ≡ 0 → ⊥) → r ≡ recordsRefusal cs w h ds (count cs)
+      e′ e z = sym e ∙ sym (refusal-lasts cs w h ds (suc k) (count cs) l z)
 
 -- no record is read yet
 pub steps-none : (w : ℕ) (cs : List ℕ) (steps : List Step) → StepsTo 0 w cs steps
@@ -70,10 +70,10 @@ width-fits w k x cs s e q l =
     omega arith
 
 -- after the last
-pub all-read : (w h : ℕ) (cs ds : List ℕ) (k : ℕ) (c : Chain) → recordsRefusal cs w h (length ds) k ≡ 0 → StepsTo k w cs (c .steps) → c .strip .0 ≡ widthAt cs w k
+pub all-read : (w h : ℕ) (cs ds : List ℕ) (k : ℕ) (c : Chain) → recordsRefusal cs w h ds k ≡ 0 → StepsTo k w cs (c .steps) → c .strip .0 ≡ widthAt cs w k
     → k ≡ count cs → c .count ≡ count cs → c .width .0 ≡ w → c .height ≡ h
-    → c .refusal ≡ 0 → chainRefusal w h cs (length ds) ≡ recordsRefusal cs w h (length ds) (count cs) → Read w h cs ds c
+    → c .refusal ≡ 0 → inputRefusal w h cs ds ≡ recordsRefusal cs w h ds (count cs) → Read w h cs ds c
 all-read w h cs ds k c r s x q n i j z e =
-    let none : chainRefusal w h cs (length ds) ≡ 0 = e ∙ rw q at r in
+    let none : inputRefusal w h cs ds ≡ 0 = e ∙ rw q at r in
     let of : ChainOf w h cs c = record { count = n; steps = record { at = λ a l. s .at a (omega arith) }; width = i; height = j; strip = rw q at x } in
     record { refusal = z ∙ sym none; of = λ y. of; valid = λ y. valid-of w h cs ds c none of }

@@ -9,17 +9,17 @@ use borrow.Author.Tests.{eq-eqb, ne-eqb, le-leb, lt-leb, leb-true}
 use lib.Dec.{leb, eqb}
 use lib.ListN.{length}
 use Rattle.format.specs.Sizes.{Sized}
-use Rattle.format.specs.Refusals.{inRange, recordsRefusal, chainRefusal, _unless_}
-use Rattle.format.specs.Calls.{holds}
+use Rattle.format.specs.Refusals.{inRange, recordsRefusal, inputRefusal, _unless_}
+use Rattle.format.specs.Calls.{holds, pairRefusal}
 use Rattle.format.specs.Chain.{count}
 use Rattle.format.proofs.Choice.{and-left, and-right, and-both}
 use Rattle.format.proofs.Valid.{before-none, before-some, chain-unsized, chain-broken, chain-records, valid-sized}
 use Rattle.chain.specs.declared.Chain.{Chain}
 use Rattle.chain.specs.Valid.{pixelsIn, recordsIn}
-use Rattle.chain.specs.Reading.{Read, Opened, pairRefusal}
+use Rattle.chain.specs.Reading.{Read, Opened}
 
 -- a refusal, whose number is the definition's
-pub refused-as : (w h r : ℕ) (cs ds : List ℕ) (c : Chain) → c .refusal ≡ r → chainRefusal w h cs (length ds) ≡ r → (r ≡ 0 → ⊥) → Read w h cs ds c
+pub refused-as : (w h r : ℕ) (cs ds : List ℕ) (c : Chain) → c .refusal ≡ r → inputRefusal w h cs ds ≡ r → (r ≡ 0 → ⊥) → Read w h cs ds c
 refused-as w h r cs ds c e q d = record { refusal = e ∙ sym q; of = λ z. absurd (d (sym e ∙ z)); valid = λ z. absurd (d (sym e ∙ z)) }
 
 -- test 1 passed
@@ -38,40 +38,41 @@ and-false-right : (a b : Bool) → b ≡ false → (a && b) ≡ false
 and-false-right true b e = e
 and-false-right false b e = refl
 
-module _ (w h : ℕ) (cs : List ℕ) (n : ℕ) where
-  pub too-wide : inRange w ≡ false → chainRefusal w h cs n ≡ 1
-  too-wide e = chain-unsized w h cs n (and-false-left (inRange w) (inRange h) e)
+module _ (w h : ℕ) (cs ds : List ℕ) where
+  pub too-wide : inRange w ≡ false → inputRefusal w h cs ds ≡ 1
+  too-wide e = chain-unsized w h cs ds (and-false-left (inRange w) (inRange h) e)
 
-  pub too-tall : inRange h ≡ false → chainRefusal w h cs n ≡ 1
-  too-tall e = chain-unsized w h cs n (and-false-right (inRange w) (inRange h) e)
+  pub too-tall : inRange h ≡ false → inputRefusal w h cs ds ≡ 1
+  too-tall e = chain-unsized w h cs ds (and-false-right (inRange w) (inRange h) e)
 
   module _ (wide : inRange w ≡ true) (tall : inRange h ≡ true) where
     both : (inRange w && inRange h) ≡ true
     both = and-both (inRange w) (inRange h) wide tall
 
-    pub part-record : (length cs % 16 ≡ 0 → ⊥) → chainRefusal w h cs n ≡ 2
-    part-record d = chain-broken w h cs n both (and-false-left (eqb (length cs % 16) 0) (leb (length cs) 64) (ne-eqb (length cs % 16) 0 d))
+    pub part-record : (length cs % 16 ≡ 0 → ⊥) → inputRefusal w h cs ds ≡ 2
+    part-record d = chain-broken w h cs ds both (and-false-left (eqb (length cs % 16) 0) (leb (length cs) 64) (ne-eqb (length cs % 16) 0 d))
 
-    pub too-many : 64 < length cs → chainRefusal w h cs n ≡ 2
-    too-many l = chain-broken w h cs n both (and-false-right (eqb (length cs % 16) 0) (leb (length cs) 64) (lt-leb (length cs) 64 l))
+    pub too-many : 64 < length cs → inputRefusal w h cs ds ≡ 2
+    too-many l = chain-broken w h cs ds both (and-false-right (eqb (length cs % 16) 0) (leb (length cs) 64) (lt-leb (length cs) 64 l))
 
 -- tests 1 and 2 passed
-pub whole-chain : (w h : ℕ) (cs : List ℕ) (n : ℕ) → Sized w h → length cs % 16 ≡ 0 → length cs ≤ 64 → chainRefusal w h cs n ≡ recordsRefusal cs w h n (count cs)
-whole-chain w h cs n s e l =
+pub whole-chain : (w h : ℕ) (cs ds : List ℕ) → Sized w h → length cs % 16 ≡ 0 → length cs ≤ 64 → inputRefusal w h cs ds ≡ recordsRefusal cs w h ds (count cs)
+whole-chain w h cs ds s e l =
     let in-range : (inRange w && inRange h) ≡ true = rw (le-leb 1 w (s .wide), le-leb w 16384 (s .narrow), le-leb 1 h (s .tall), le-leb h 16384 (s .low)) refl in
-    chain-records w h cs n in-range (and-both (eqb (length cs % 16) 0) (leb (length cs) 64) (eq-eqb (length cs % 16) 0 e) (le-leb (length cs) 64 l))
+    chain-records w h cs ds in-range (and-both (eqb (length cs % 16) 0) (leb (length cs) 64) (eq-eqb (length cs % 16) 0 e) (le-leb (length cs) 64 l))
 
 -- a picture's pixels can be counted
-pub area-small : (w h n : ℕ) (cs : List ℕ) → chainRefusal w h cs n ≡ 0 → h * w ≤ 16384 * 16384
-area-small w h n cs valid = let s = valid-sized w h cs n valid in mul-le-mul (s .low) (s .narrow)
+pub area-small : (w h : ℕ) (cs ds : List ℕ) → inputRefusal w h cs ds ≡ 0 → h * w ≤ 16384 * 16384
+area-small w h cs ds valid = let s = valid-sized w h cs ds valid in mul-le-mul (s .low) (s .narrow)
 
 -- both buffers
 
 module _ (w h : ℕ) (cs ds picture strip : List ℕ) (c : Chain) (read : Read w h cs ds c) where
   -- refusals 1 to 7
   pub not-opened : (c .refusal ≡ 0 → ⊥) → Opened w h cs ds picture strip c
+  unfolding pairRefusal
   not-opened d = record {
-    refusal = read .refusal ∙ sym (before-some (chainRefusal w h cs (length ds)) _ (λ z. d (read .refusal ∙ z)));
+    refusal = read .refusal ∙ sym (before-some (inputRefusal w h cs ds) _ (λ z. d (read .refusal ∙ z)));
     of = λ z. absurd (d z);
     valid = λ z. absurd (d z);
     held = λ z. absurd (d z);
@@ -80,9 +81,10 @@ module _ (w h : ℕ) (cs ds picture strip : List ℕ) (c : Chain) (read : Read w
 
   module _ (e : c .refusal ≡ 0) where
     room : pairRefusal w h cs ds picture strip ≡ (8 unless (holds picture (pixelsIn c) && holds strip (recordsIn c)))
+    unfolding pairRefusal
     room =
         let of = read .of e in
-        before-none (chainRefusal w h cs (length ds)) _ (sym (read .refusal) ∙ e) ∙ rw (of .width, of .height, of .strip) refl
+        before-none (inputRefusal w h cs ds) _ (sym (read .refusal) ∙ e) ∙ rw (of .width, of .height, of .strip) refl
 
     -- 8
     short : (r : Chain) → r .refusal ≡ 8 → (holds picture (pixelsIn c) && holds strip (recordsIn c)) ≡ false → Opened w h cs ds picture strip r

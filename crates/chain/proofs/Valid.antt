@@ -4,11 +4,10 @@ use mathlib.Core.Path.{_≡_, refl, sym, ap, _∙_}
 use Prim.Native.Nat.{ℕ, zero, suc, _*_, _<_, _≤_}
 use native.Mathlib.Nat.{le-refl, mul-le-mul}
 use native.Mathlib.Omega.{arith}
-use lib.ListN.{length}
 use Rattle.format.specs.declared.Step.{Step}
 use Rattle.format.specs.Sizes.{Sized}
 use Rattle.format.specs.Chain.{narrowed, widthAt, stepAt}
-use Rattle.format.specs.Refusals.{chainRefusal}
+use Rattle.format.specs.Refusals.{inputRefusal}
 use Rattle.format.proofs.Valid.{valid-sized, valid-count, valid-step, valid-once}
 use Rattle.format.proofs.Stages.{width-record, narrowed-fewer, narrowed-pos}
 use Rattle.chain.specs.declared.Chain.{Chain}
@@ -47,7 +46,7 @@ module _ (c : Chain) (ds : List ℕ) (v : Valid c ds) where
 
 -- from a chain's bytes
 
-module _ (w h : ℕ) (cs ds : List ℕ) (c : Chain) (none : chainRefusal w h cs (length ds) ≡ 0) (of : ChainOf w h cs c) where
+module _ (w h : ℕ) (cs ds : List ℕ) (c : Chain) (none : inputRefusal w h cs ds ≡ 0) (of : ChainOf w h cs c) where
   step-is : (k : ℕ) → k < c .count → stepsOf c k ≡ stepAt cs w k
   step-is k l = of .steps .at k (let e = of .count in omega arith)
 
@@ -58,12 +57,12 @@ module _ (w h : ℕ) (cs ds : List ℕ) (c : Chain) (none : chainRefusal w h cs 
 
   pub valid-of : Valid c ds
   valid-of = record {
-    sized = rw (of .width, of .height) (valid-sized w h cs (length ds) none);
-    few = let e = of .count in let f = valid-count w h cs (length ds) none in omega arith;
-    step = λ k l. rw (step-is k l, of .height) (valid-step w h cs (length ds) none k (let e = of .count in omega arith));
+    sized = rw (of .width, of .height) (valid-sized w h cs ds none);
+    few = let e = of .count in let f = valid-count w h cs ds none in omega arith;
+    step = λ k l. rw (step-is k l, of .height) (valid-step w h cs ds none k (let e = of .count in omega arith));
     width = λ k l. ap (λ (s : Step). s .width) (step-is k l) ∙ width-record cs k (widthAt cs w k) ∙ sym (after-is k (omega arith));
     once = λ j k i l e.
-        valid-once w h cs (length ds) none k (let q = of .count in omega arith) j i
+        valid-once w h cs ds none k (let q = of .count in omega arith) j i
         (sym (ap (λ (s : Step). s .kind) (step-is j (omega arith))) ∙ e ∙ ap (λ (s : Step). s .kind) (step-is k l));
     strip = of .strip ∙ ap (widthAt cs w) (sym (of .count)) ∙ sym (after-is (c .count) (omega arith));
   }

@@ -1,23 +1,14 @@
 -- What reading a chain gives. w and h are the picture's width and height, cs the chain, ds the data.
-use mathlib.Core.Bool.{_&&_}
 use mathlib.Core.List.{List}
 use mathlib.Core.Path.{_≡_}
-use Prim.Native.Nat.{ℕ, _*_, _<_}
-use lib.ListN.{length, take, drop, getD}
+use Prim.Native.Nat.{ℕ, _<_}
+use lib.ListN.{getD}
 use Rattle.format.specs.declared.Step.{Step}
 use Rattle.format.specs.Chain.{stepAt, widthAt, count as recordCount}
-use Rattle.format.specs.Refusals.{chainRefusal, _before_, _unless_}
-use Rattle.format.specs.Calls.{holds, records}
+use Rattle.format.specs.Refusals.{inputRefusal}
+use Rattle.format.specs.Calls.{pairRefusal}
 use Rattle.chain.specs.declared.Chain.{Chain}
 use Rattle.chain.specs.Valid.{noStep, HoldsPicture, HoldsStrip, Valid}
-
--- the part of the data that a record names
-abbrev pub dataOf : Step → List ℕ → List ℕ
-dataOf s ds = take (s .length) (drop (s .offset) ds)
-
--- refusals 1 to 8 of the calls that have a picture and its strip
-abbrev pub pairRefusal : ℕ → ℕ → List ℕ → List ℕ → List ℕ → List ℕ → ℕ
-pairRefusal w h cs ds picture strip = chainRefusal w h cs (length ds) before (8 unless (holds picture (h * w) && holds strip (records w h cs)))
 
 -- the first k values of an array are the chain's records
 pub record StepsTo (k w : ℕ) (cs : List ℕ) (steps : List Step) : Type 0 where
@@ -33,7 +24,7 @@ pub record ChainOf (w h : ℕ) (cs : List ℕ) (c : Chain) : Type 0 where
 
 -- refusals 1 to 7 and, where there is none, the chain
 pub record Read (w h : ℕ) (cs ds : List ℕ) (c : Chain) : Type 0 where
-  pub refusal : c .refusal ≡ chainRefusal w h cs (length ds)
+  pub refusal : c .refusal ≡ inputRefusal w h cs ds
   pub of : c .refusal ≡ 0 → ChainOf w h cs c
   pub valid : c .refusal ≡ 0 → Valid c ds
 

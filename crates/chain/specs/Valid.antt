@@ -16,9 +16,12 @@ use Rattle.chain.specs.declared.Chain.{Chain}
 abbrev pub noStep : Step
 noStep = record { kind = 0; bits = 0; size = 0; offset = 0; length = 0; zero = 0; width = 0 }
 
--- the records, by their numbers
+-- the records in an array, and those of a chain, by their numbers
+abbrev pub stepsIn : List Step → ℕ → Step
+stepsIn steps k = getD steps k noStep
+
 abbrev pub stepsOf : Chain → ℕ → Step
-stepsOf c k = getD (c .steps) k noStep
+stepsOf c = stepsIn (c .steps)
 
 -- the current width after the first k records
 abbrev pub widthAfter : Chain → ℕ → ℕ

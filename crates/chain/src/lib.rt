@@ -10,13 +10,14 @@ ghost use mathlib.Core.Bool.{true};
 ghost use Prim.Native.Nat.{_+_, _*_, _%_, _<_, _≤_};
 ghost use lib.ListN.{length};
 ghost use Rattle.format.specs.Sizes.{Sized};
-ghost use Rattle.format.specs.Chain.{two as le16Of, four as le32Of, recordAt, narrowed};
+ghost use Rattle.format.specs.Chain.{le16 as le16Of, le32 as le32Of, recordAt, narrowed};
 ghost use Rattle.format.specs.Refusals.{usedBefore, blocksTabled, greenTabled, tableTabled, tabled, blockBytes};
 ghost use Rattle.format.specs.Refusals.{tabledLength, checked, number, inRange};
-ghost use Rattle.chain.specs.Reading.{dataOf, Read, Opened};
+ghost use Rattle.format.specs.Stages.{dataOf};
+ghost use Rattle.chain.specs.Reading.{Read, Opened};
 
-// A chain as plain values, for a picture of its width and height. `refusal` is 0 where the chain is valid: only then do the other
-// fields say anything. `strip` is the strip's width, which is the current width after the last record.
+// A chain as plain values, for a picture of its width and height. `refusal` is 0 where the chain is valid: only then do
+// the other fields say anything. `strip` is the strip's width, which is the current width after the last record.
 pub struct Chain {
     pub refusal: u32,
     pub count: usize,
@@ -162,7 +163,7 @@ fn tabled_length(s: Step, height: usize) -> usize
 // Tests 3 to 7 on a record.
 fn check(s: Step, again: bool, height: usize, data: &[u8]) -> Checked
     requires { ⌜ (s .width ≤ 16384) × (height ≤ 16384) × (s .offset < 4294967296) × (s .length < 4294967296) ⌝ }
-    ensures { λ r. ⌜ r ≡ checked again height (length (now («data» .entry))) s ⌝ }
+    ensures { λ r. ⌜ r ≡ checked again height (now («data» .entry)) s ⌝ }
 {
     if 3 < s.kind {
         return Checked::UnknownKind;

@@ -14,7 +14,7 @@ use Rattle.chain.proofs.read_records.Tie as tie
 
 abbrev Inv-loop : tie.InvT-loop
 Inv-loop width height chain «data» steps₀ count current₀ k₀ steps current k =
-    (k ≤ count) × (count ≡ length chain / 16) × (recordsRefusal chain width height (length «data») k ≡ 0) × (current ≡ widthAt chain width k) × (length steps ≡ 4)
+    (k ≤ count) × (count ≡ length chain / 16) × (recordsRefusal chain width height «data» k ≡ 0) × (current ≡ widthAt chain width k) × (length steps ≡ 4)
     × StepsTo k width chain steps
 
 abbrev μ-loop : tie.MeasureT-loop

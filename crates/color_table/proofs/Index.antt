@@ -14,7 +14,7 @@ use Rattle.format.specs.declared.Pixel.{Pixel}
 use Rattle.format.specs.Choice.{if_then_else_}
 use Rattle.format.specs.Pixel.{equal}
 use Rattle.format.specs.Picture.{Picture, byteAt}
-use Rattle.format.specs.ColorTable.{lowest, indexOf, hasEntry, accepted}
+use Rattle.format.specs.ColorTable.{lowest, indexOf, hasEntry, haveEntries}
 use Rattle.format.proofs.Choice.{every-at, and-both, and-left, and-right}
 use Rattle.format.proofs.Pixels.{equal-true, equal-refl}
 use Rattle.format.proofs.ColorTable.{lowest-hit, lowest-least}
@@ -227,19 +227,19 @@ and-false true b q = q
 and-false false b q = refl
 
 module _ (size : ℕ) (e f : Picture) where
-  pub accepted-more : (i k : ℕ) (u : Pixel) → accepted size e i f ≡ true → u ≡ f i → k ≡ indexOf size e u → k < size → accepted size e (i + 1) f ≡ true
+  pub accepted-more : (i k : ℕ) (u : Pixel) → haveEntries size e i f ≡ true → u ≡ f i → k ≡ indexOf size e u → k < size → haveEntries size e (i + 1) f ≡ true
   accepted-more i k u h p q l =
       let s : suc i ≡ i + 1 = omega arith in
       let t : hasEntry size e (f i) ≡ true = lt-ltb (indexOf size e (f i)) size (rw (← p, ← q) l) in
-      ap (λ (n : ℕ). accepted size e n f) (sym s) ∙ and-both (hasEntry size e (f i)) (accepted size e i f) t h
+      ap (λ (n : ℕ). haveEntries size e n f) (sym s) ∙ and-both (hasEntry size e (f i)) (haveEntries size e i f) t h
 
-  pub accepted-not : (m i k : ℕ) (u : Pixel) → u ≡ f i → k ≡ indexOf size e u → size ≤ k → i < m → false ≡ accepted size e m f
-  accepted-not m i k u p q h l = go (accepted size e m f) refl
+  pub accepted-not : (m i k : ℕ) (u : Pixel) → u ≡ f i → k ≡ indexOf size e u → size ≤ k → i < m → false ≡ haveEntries size e m f
+  accepted-not m i k u p q h l = go (haveEntries size e m f) refl
     where
       lacks : hasEntry size e (f i) ≡ false
       lacks = le-ltb (indexOf size e (f i)) size (rw (← p, ← q) h)
 
-      go : (b : Bool) → accepted size e m f ≡ b → false ≡ b
+      go : (b : Bool) → haveEntries size e m f ≡ b → false ≡ b
       go false r = refl
       go true r = sym lacks ∙ every-at m (λ j. hasEntry size e (f j)) i l r
 
@@ -252,52 +252,52 @@ module _ (size : ℕ) (e f : Picture) where
       go (no n) = h (and-left all s r) j (omega arith)
 
   -- n pixels more that have entries
-  pub accepted-has : (i n : ℕ) → EachHas size e f i n → accepted size e i f ≡ true → accepted size e (i + n) f ≡ true
+  pub accepted-has : (i n : ℕ) → EachHas size e f i n → haveEntries size e i f ≡ true → haveEntries size e (i + n) f ≡ true
   accepted-has i zero h t = rw (add-zero i) t
   accepted-has i (suc n) h t =
       let s : i + suc n ≡ suc (i + n) = omega arith in
       let r = accepted-has i n (λ k l. h k (omega arith)) t in
-      ap (λ (m : ℕ). accepted size e m f) s ∙ and-both (hasEntry size e (f (i + n))) (accepted size e (i + n) f) (h n (omega arith)) r
+      ap (λ (m : ℕ). haveEntries size e m f) s ∙ and-both (hasEntry size e (f (i + n))) (haveEntries size e (i + n) f) (h n (omega arith)) r
 
   -- eight and eight
-  pub accepted-both : (i : ℕ) (s t : Bool) → (s ≡ true → EachHas size e f i 8) → (t ≡ true → EachHas size e f (i + 8) 8) → (s && t) ≡ true → accepted size e i f ≡ true → accepted size e (i + 16) f ≡ true
+  pub accepted-both : (i : ℕ) (s t : Bool) → (s ≡ true → EachHas size e f i 8) → (t ≡ true → EachHas size e f (i + 8) 8) → (s && t) ≡ true → haveEntries size e i f ≡ true → haveEntries size e (i + 16) f ≡ true
   accepted-both i s t h d r a =
       let q : i + 8 + 8 ≡ i + 16 = omega arith in
       rw q at (accepted-has (i + 8) 8 (d (and-right s t r)) (accepted-has i 8 (h (and-left s t r)) a))
 
   -- n pixels more that are one of two
-  pub accepted-each : (u v : Pixel) (i n : ℕ) → EachOf u v f i n → accepted size e i f ≡ true → hasEntry size e u ≡ true → hasEntry size e v ≡ true → accepted size e (i + n) f ≡ true
+  pub accepted-each : (u v : Pixel) (i n : ℕ) → EachOf u v f i n → haveEntries size e i f ≡ true → hasEntry size e u ≡ true → hasEntry size e v ≡ true → haveEntries size e (i + n) f ≡ true
   accepted-each u v i n h t a b = accepted-has i n (each-passes u v f i n (hasEntry size e) h a b) t
 
-  pub accepted-front : (u v : Pixel) (n : ℕ) → EachOf u v f 0 n → hasEntry size e u ≡ true → hasEntry size e v ≡ true → accepted size e n f ≡ true
+  pub accepted-front : (u v : Pixel) (n : ℕ) → EachOf u v f 0 n → hasEntry size e u ≡ true → hasEntry size e v ≡ true → haveEntries size e n f ≡ true
   accepted-front u v n h x y = rw (zero-add n) at (accepted-each u v 0 n h refl x y)
 
   -- what is refused early stays so
-  pub accepted-fewer : (m n : ℕ) → accepted size e m f ≡ false → m ≤ n → false ≡ accepted size e n f
+  pub accepted-fewer : (m n : ℕ) → haveEntries size e m f ≡ false → m ≤ n → false ≡ haveEntries size e n f
   accepted-fewer m zero h l = let z : m ≡ 0 = omega arith in sym (rw z at h)
   accepted-fewer m (suc n) h l = go (ℕ-discrete m (suc n)) (λ k. accepted-fewer m n h k)
     where
-      go : Dec (m ≡ suc n) → (m ≤ n → false ≡ accepted size e n f) → false ≡ accepted size e (suc n) f
+      go : Dec (m ≡ suc n) → (m ≤ n → false ≡ haveEntries size e n f) → false ≡ haveEntries size e (suc n) f
       go (yes q) ih = sym (rw q at h)
-      go (no q) ih = and-false (hasEntry size e (f n)) (accepted size e n f) (ih (omega arith))
+      go (no q) ih = and-false (hasEntry size e (f n)) (haveEntries size e n f) (ih (omega arith))
 
-  pub accepted-done : (i m : ℕ) → accepted size e i f ≡ true → i ≡ m → true ≡ accepted size e m f
-  accepted-done i m h q = sym (ap (λ (n : ℕ). accepted size e n f) (sym q) ∙ h)
+  pub accepted-done : (i m : ℕ) → haveEntries size e i f ≡ true → i ≡ m → true ≡ haveEntries size e m f
+  accepted-done i m h q = sym (ap (λ (n : ℕ). haveEntries size e n f) (sym q) ∙ h)
 
-  pub accepted-below : (m i : ℕ) → accepted size e m f ≡ true → i < m → indexOf size e (f i) < size
+  pub accepted-below : (m i : ℕ) → haveEntries size e m f ≡ true → i < m → indexOf size e (f i) < size
   accepted-below m i h l = ltb-true (indexOf size e (f i)) size (every-at m (λ j. hasEntry size e (f j)) i l h)
 
-  pub column-below : (m i : ℕ) (u : Pixel) → accepted size e m f ≡ true → u ≡ f i → i < m → indexOf size e u < size
+  pub column-below : (m i : ℕ) (u : Pixel) → haveEntries size e m f ≡ true → u ≡ f i → i < m → indexOf size e u < size
   column-below m i u h p l = rw p (accepted-below m i h l)
 
-  pub taken-below : (m x k : ℕ) (u : Pixel) → accepted size e m f ≡ true → u ≡ f x → k ≡ indexOf size e u → x < m → k < size
+  pub taken-below : (m x k : ℕ) (u : Pixel) → haveEntries size e m f ≡ true → u ≡ f x → k ≡ indexOf size e u → x < m → k < size
   taken-below m x k u h p q l = rw (q, p) (accepted-below m x h l)
 
-  pub taken-entry : (m x : ℕ) (u : Pixel) → accepted size e m f ≡ true → u ≡ f x → x < m → hasEntry size e u ≡ true
+  pub taken-entry : (m x : ℕ) (u : Pixel) → haveEntries size e m f ≡ true → u ≡ f x → x < m → hasEntry size e u ≡ true
   taken-entry m x u h p l = rw p (every-at m (λ j. hasEntry size e (f j)) x l h)
 
   -- the index of a column, inside the row and past its end
-  pub row-inside : (w a k r : ℕ) (u : Pixel) → accepted size e w f ≡ true → u ≡ f (a + k) → r ≡ indexOf size e u → a + k < w → (r ≡ rowIndices w size e f a k) × (r < size)
+  pub row-inside : (w a k r : ℕ) (u : Pixel) → haveEntries size e w f ≡ true → u ≡ f (a + k) → r ≡ indexOf size e u → a + k < w → (r ≡ rowIndices w size e f a k) × (r < size)
   unfolding rowIndices
   row-inside w a k r u h p q l =
       (rw (lt-ltb (a + k) w l) (q ∙ ap (indexOf size e) p), taken-below w (a + k) r u h p q l)

@@ -1,6 +1,5 @@
 pub mod Entries
 pub mod Rows
-pub mod Looked
 pub mod Index
 pub mod Digits
 pub mod Words

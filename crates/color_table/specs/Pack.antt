@@ -9,7 +9,7 @@ use Rattle.format.specs.declared.Pixel.{Pixel}
 use Rattle.format.specs.Choice.{if_then_else_}
 use Rattle.format.specs.Pixel.{pixel, equal}
 use Rattle.format.specs.Picture.{Picture, byteAt, pixels}
-use Rattle.format.specs.ColorTable.{perPixel, range, indexOf, hasEntry, accepted, digits}
+use Rattle.format.specs.ColorTable.{perPixel, range, indexOf, hasEntry, haveEntries, digits}
 use Rattle.pixel.specs.Cells.{pixelCells, run, given}
 
 -- every slot holds an index that is the lowest one of its entry
@@ -48,7 +48,7 @@ pub record Row (size w n u : ℕ) (entries row : List ℕ) : Type 0 where
   pub wide : 1 ≤ w
   pub narrow : w ≤ 16384
   pub there : 4 * w ≤ length row
-  pub taken : accepted size (pixels entries) w (pixels row) ≡ true
+  pub taken : haveEntries size (pixels entries) w (pixels row) ≡ true
   pub places : n ≡ perPixel size
   pub base : u ≡ range n
 

@@ -1,15 +1,29 @@
--- What unpacking a row writes. u is one more than the largest index, n how many indices a packed pixel holds, e the table.
-use Prim.Native.Nat.{ℕ, _-_, _/_, _%_, _^_}
-use Rattle.format.specs.Picture.{Picture}
-
--- the indices of the byte b, lowest first, from pixel a on
-unfoldable pub spread : ℕ → Picture → ℕ → ℕ → Picture
-spread u e b a i = e (b / u ^ (i - a) % u)
+-- What unpacking writes. n is how many indices a packed pixel holds, e the table.
+use mathlib.Core.List.{List}
+use mathlib.Core.Path.{_≡_}
+use Prim.Native.Nat.{ℕ, _+_, _-_, _/_, _%_, _<_}
+use Rattle.format.specs.Picture.{Picture, pixels}
+use Rattle.format.specs.ColorTable.{indexIn}
+use Rattle.pixel.specs.Cells.{pixelCells, run, given}
+use Rattle.pixel.specs.Word.{unword}
+use Rattle.color_table.specs.Table.{ColumnsOf}
 
 -- a row's columns from pixel a on, from the packed pixels g
-unfoldable pub rowOf : ℕ → ℕ → Picture → Picture → ℕ → Picture
-rowOf u n e g a i = e (g ((i - a) / n) .green / u ^ ((i - a) % n) % u)
+unfoldable pub rowOf : ℕ → Picture → Picture → ℕ → Picture
+rowOf n e g a i = e (indexIn n (g ((i - a) / n) .green) ((i - a) % n))
 
--- packed pixels that are an index each
-unfoldable pub looked : Picture → Picture → Picture
-looked e g i = e (g i .green % 256)
+-- xs starts with a row's packed pixels, and its columns go to pixel `first` on: ys is xs with columns x up to x + m there
+abbrev pub Columns : ℕ → List ℕ → ℕ → ℕ → ℕ → List ℕ → List ℕ → Type 0
+Columns n c first x m xs ys =
+    (e : Picture) → ColumnsOf n e c → ys ≡ run pixelCells (given (rowOf n e (pixels xs) first)) (first + x) m xs
+
+-- f has these four pixels from j on
+pub record FourOf (f : Picture) (j a b c d : ℕ) : Type 0 where
+  pub first : unword a ≡ f j
+  pub second : unword b ≡ f (j + 1)
+  pub third : unword c ≡ f (j + 2)
+  pub fourth : unword d ≡ f (j + 3)
+
+-- f has pixels j to j + 3 of c from i on
+abbrev pub FourIn : Picture → ℕ → ℕ → List ℕ → Type 0
+FourIn f i j c = (k : ℕ) → k < 4 → pixels c (j + k) ≡ f (i + k)

@@ -9,7 +9,7 @@ ghost use mathlib.Core.Bool.{true};
 ghost use Prim.Native.Nat.{_+_, _*_, _%_, _≤_};
 ghost use lib.ListN.{length};
 ghost use Rattle.format.specs.Picture.{pixels};
-ghost use Rattle.format.specs.ColorTable.{hasEntry, accepted};
+ghost use Rattle.format.specs.ColorTable.{hasEntry, haveEntries};
 ghost use Rattle.pixel.specs.Word.{unword};
 ghost use Rattle.color_table.specs.Pack.{Hints, Table, EachOf, EachHas};
 
@@ -55,8 +55,8 @@ fn accept_each(
 ) -> bool
     requires { ⌜ Table size (now entries) (now hints) ⌝ }
     requires { ⌜ (from ≤ to) × (4 * to ≤ length (now row)) ⌝ }
-    requires { ⌜ accepted size (pixels (now entries)) from (pixels (now row)) ≡ true ⌝ }
-    ensures { λ r. ⌜ r ≡ accepted size (pixels (now (entries .entry))) to (pixels (now (row .entry))) ⌝ }
+    requires { ⌜ haveEntries size (pixels (now entries)) from (pixels (now row)) ≡ true ⌝ }
+    ensures { λ r. ⌜ r ≡ haveEntries size (pixels (now (entries .entry))) to (pixels (now (row .entry))) ⌝ }
 {
     let mut i = from;
     while i < to {
@@ -88,8 +88,8 @@ fn eight_first(row: &[u8], i: usize, entries: &[u8], size: usize, hints: &[u8]) 
 fn accept_group(row: &[u8], i: usize, a: u32, entries: &[u8], size: usize, hints: &[u8]) -> bool
     requires { ⌜ Table size (now entries) (now hints) ⌝ }
     requires { ⌜ 4 * (i + 16) ≤ length (now row) ⌝ }
-    requires { ⌜ (accepted size (pixels (now entries)) i (pixels (now row)) ≡ true) × (hasEntry size (pixels (now entries)) (unword a) ≡ true) ⌝ }
-    ensures { λ r. ⌜ r ≡ accepted size (pixels (now (entries .entry))) (i + 16) (pixels (now (row .entry))) ⌝ }
+    requires { ⌜ (haveEntries size (pixels (now entries)) i (pixels (now row)) ≡ true) × (hasEntry size (pixels (now entries)) (unword a) ≡ true) ⌝ }
+    ensures { λ r. ⌜ r ≡ haveEntries size (pixels (now (entries .entry))) (i + 16) (pixels (now (row .entry))) ⌝ }
 {
     let c = word_at(row, i + 15);
     let known = first_holds(entries, size, hints, c) | same(c, a);
@@ -106,7 +106,7 @@ fn accept_group(row: &[u8], i: usize, a: u32, entries: &[u8], size: usize, hints
 fn accept_groups(row: &[u8], count: usize, entries: &[u8], size: usize, hints: &[u8]) -> bool
     requires { ⌜ Table size (now entries) (now hints) ⌝ }
     requires { ⌜ (count % 16 ≡ 0) × (4 * count ≤ length (now row)) ⌝ }
-    ensures { λ r. ⌜ r ≡ accepted size (pixels (now (entries .entry))) count (pixels (now (row .entry))) ⌝ }
+    ensures { λ r. ⌜ r ≡ haveEntries size (pixels (now (entries .entry))) count (pixels (now (row .entry))) ⌝ }
 {
     let mut a = word_at(entries, 0);
     let mut i = pass(row, count, a, word_at(entries, size - 1));
@@ -124,7 +124,7 @@ fn accept_groups(row: &[u8], count: usize, entries: &[u8], size: usize, hints: &
 pub fn accept(row: &[u8], count: usize, entries: &[u8], size: usize, hints: &[u8]) -> bool
     requires { ⌜ (1 ≤ size) × (size ≤ 256) × (4 * size ≤ length (now entries)) × (4 * count ≤ length (now row)) ⌝ }
     requires { ⌜ Hints size (pixels (now entries)) (now hints) ⌝ }
-    ensures { λ r. ⌜ r ≡ accepted size (pixels (now (entries .entry))) count (pixels (now (row .entry))) ⌝ }
+    ensures { λ r. ⌜ r ≡ haveEntries size (pixels (now (entries .entry))) count (pixels (now (row .entry))) ⌝ }
 {
     let whole = count / 16 * 16;
     if !accept_groups(row, whole, entries, size, hints) {

@@ -3,7 +3,7 @@ pub mod accept;
 mod each;
 pub mod find;
 mod flat;
-mod look;
+mod four;
 pub mod pack;
 mod runs;
 pub mod table;

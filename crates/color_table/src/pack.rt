@@ -8,7 +8,7 @@ ghost use mathlib.Core.Bool.{true};
 ghost use Prim.Native.Nat.{_*_, _≤_};
 ghost use lib.ListN.{length};
 ghost use Rattle.format.specs.Picture.{pixels, written};
-ghost use Rattle.format.specs.ColorTable.{packedWidth, accepted, packed as packedOf};
+ghost use Rattle.format.specs.ColorTable.{packedWidth, haveEntries, packed as packedOf};
 ghost use Rattle.pixel.specs.Cells.{pixelCells, run, given};
 ghost use Rattle.color_table.specs.Pack.{Hints, Table, Row};
 
@@ -67,7 +67,7 @@ pub fn pack_row(
 )
     requires { ⌜ (1 ≤ size) × (size ≤ 256) × (4 * size ≤ length (now entries)) × (1 ≤ expanded .0) × (expanded .0 ≤ 16384) × (4 * expanded .0 ≤ length (now row)) × (4 * packedWidth size (expanded .0) ≤ length (now out)) ⌝ }
     requires { ⌜ Hints size (pixels (now entries)) (now hints) ⌝ }
-    requires { ⌜ accepted size (pixels (now entries)) (expanded .0) (pixels (now row)) ≡ true ⌝ }
+    requires { ⌜ haveEntries size (pixels (now entries)) (expanded .0) (pixels (now row)) ≡ true ⌝ }
     ensures { λ _. ⌜ now (out .exit) ≡ written (packedWidth size (expanded .0)) (packedOf (expanded .0) size (pixels (now (entries .entry))) (pixels (now (row .entry)))) (now (out .entry)) ⌝ }
 {
     let width = expanded.0;

@@ -2,15 +2,15 @@
 use format::Pixel;
 use pixel::pixel::pixel_at;
 use pixel::pixel::put_pixel;
+use pixel::stride::per_pixel;
 ghost use mathlib.Core.Path.{_≡_};
-ghost use Prim.Native.Nat.{ℕ, _+_, _*_, _%_, _^_, _≤_};
+ghost use Prim.Native.Nat.{ℕ, _*_, _^_, _<_, _≤_};
 ghost use lib.ListN.{length};
 ghost use Rattle.format.specs.Pixel.{clear};
 ghost use Rattle.format.specs.Picture.{pixels, Picture};
-ghost use Rattle.format.specs.ColorTable.{perPixel, range, entry};
-ghost use Rattle.pixel.specs.Cells.{pixelCells, run, given};
+ghost use Rattle.format.specs.ColorTable.{perPixel, range, indexIn, entry};
+ghost use Rattle.pixel.specs.Stride.{Places};
 ghost use Rattle.color_table.specs.Table.{entryIn, TableOf, ColumnsOf};
-ghost use Rattle.color_table.specs.Unpack.{spread};
 
 // One more than the largest index that a packed pixel can hold.
 pub fn index_range(size: usize) -> usize
@@ -56,7 +56,7 @@ fn no_columns() -> [u8; 8192]
 // The entries, and (0, 0, 0, 0) from `size` on.
 pub fn padded(entries: &[u8], size: usize) -> [[u8; 4]; 256]
     requires { ⌜ (size ≤ 256) × (4 * size ≤ length (now entries)) ⌝ }
-    ensures { λ r. ⌜ TableOf 256 (entry size (pixels (now (entries .entry)))) r ⌝ }
+    ensures { λ r. ⌜ TableOf (entry size (pixels (now (entries .entry)))) r ⌝ }
 {
     let mut table = no_entries();
     let mut i = 0;
@@ -68,37 +68,34 @@ pub fn padded(entries: &[u8], size: usize) -> [[u8; 4]; 256]
     table
 }
 
-// The pixels of the n indices of `byte`, from pixel a on.
-fn put_indices(
-    columns: &mut [u8],
-    a: usize,
-    n: usize,
-    range: usize,
-    byte: u8,
-    table: &[[u8; 4]; 256],
-)
-    requires { ⌜ (1 ≤ range) × (range ≤ 16) × (4 * (a + n) ≤ length (now columns)) ⌝ }
-    ensures { λ _. ⌜ ((e : Picture) → TableOf range e (now (table .entry)) → now (columns .exit) ≡ run pixelCells (given (spread range e byte a)) a n (now (columns .entry))) ⌝ }
+// Index k of the byte b, which holds n indices below `most`.
+fn index_in(b: u8, k: usize, n: usize, most: usize) -> u8
+    requires { ⌜ Places n × (k < n) × (most ≡ range n) ⌝ }
+    ensures { λ r. ⌜ r ≡ indexIn n b k ⌝ }
 {
-    let mut b = byte as usize;
-    let mut k = 0;
-    while k < n {
-        put_pixel(columns, a + k, entry_at(table, (b % range) as u8));
-        b = b / range;
-        k += 1;
-    }
+    let shift = 8 / n * k;
+    ((b as usize >> shift) % most) as u8
 }
 
 // The pixels of the n indices of every byte, those of byte b from pixel b * n on.
-pub fn columns_of(table: [[u8; 4]; 256], n: usize, range: usize) -> [u8; 8192]
-    requires { ⌜ (n ≤ 8) × (1 ≤ range) × (range ≤ 16) ⌝ }
-    ensures { λ r. ⌜ ((e : Picture) → TableOf range e table → ColumnsOf range n e r) ⌝ }
+fn columns_of(table: [[u8; 4]; 256], n: usize, most: usize) -> [u8; 8192]
+    requires { ⌜ Places n × (most ≡ range n) ⌝ }
+    ensures { λ r. ⌜ ((e : Picture) → TableOf e table → ColumnsOf n e r) ⌝ }
 {
     let mut columns = no_columns();
-    let mut b = 0;
-    while b < 256 {
-        put_indices(&mut columns, b * n, n, range, b as u8, &table);
-        b += 1;
+    let mut i = 0;
+    while i < 256 * n {
+        let index = index_in((i / n) as u8, i % n, n, most);
+        put_pixel(&mut columns, i, entry_at(&table, index));
+        i += 1;
     }
     columns
+}
+
+// The columns of a table's entries: made once a picture.
+pub fn columns_of_table(entries: &[u8], size: usize) -> [u8; 8192]
+    requires { ⌜ (size ≤ 256) × (4 * size ≤ length (now entries)) ⌝ }
+    ensures { λ r. ⌜ ColumnsOf (perPixel size) (entry size (pixels (now (entries .entry)))) r ⌝ }
+{
+    columns_of(padded(entries, size), per_pixel(size), index_range(size))
 }

@@ -1,11 +1,7 @@
-// Unpacking in place: the buffer's front holds the packed rows, and it becomes the expanded rows. Rows are done from the bottom, and those at the top from the
-// right, because an expanded pixel may lie where a packed one of the same row or of a row above stands. Where a packed pixel holds one index nothing moves.
-use crate::look::look_up_pair;
-use crate::look::look_up_rest;
-use crate::look::packed_byte;
-use crate::table::columns_of;
-use crate::table::index_range;
-use crate::table::padded;
+// Unpacking in place: the buffer's front holds the packed rows, and it becomes the expanded rows, from the bottom. A row's
+// columns go from the right, because one may lie where a packed pixel of the same row stands.
+use crate::four::put_four;
+use crate::table::columns_of_table;
 use pixel::stride::Expanded;
 use pixel::stride::Packed;
 use pixel::stride::packed_width;
@@ -13,163 +9,139 @@ use pixel::stride::per_pixel;
 use pixel::word::put_word;
 use pixel::word::word_at;
 ghost use mathlib.Core.Path.{_≡_};
-ghost use Prim.Native.Nat.{ℕ, _+_, _-_, _*_, _%_, _<_, _≤_};
+ghost use Prim.Native.Nat.{ℕ, _+_, _-_, _*_, _/_, _<_, _≤_};
 ghost use lib.ListN.{length};
 ghost use Rattle.format.specs.Picture.{Picture, pixels, written};
-ghost use Rattle.format.specs.ColorTable.{perPixel, range, packedWidth, entry, unpacked};
-ghost use Rattle.pixel.specs.Cells.{pixelCells, putPixel, run, given};
+ghost use Rattle.format.specs.ColorTable.{perPixel, packedWidth, entry, unpacked};
 ghost use Rattle.format.specs.Sizes.{Sized, Holds};
-ghost use Rattle.color_table.specs.Table.{entryIn, ColumnsOf};
-ghost use Rattle.color_table.specs.Unpack.{spread, rowOf, looked};
+ghost use Rattle.pixel.specs.Cells.{pixelCells, run, given};
+ghost use Rattle.pixel.specs.Stride.{Places};
+ghost use Rattle.pixel.specs.Word.{unword};
+ghost use Rattle.color_table.specs.Table.{ColumnsOf};
+ghost use Rattle.color_table.specs.Unpack.{rowOf, Columns, FourIn};
 
-// Pixels j and j + 1 of `columns` as pixels i and i + 1. Both are read before one is written, so that the eight bytes are moved at once. By words the code is small enough to be
-// compiled anew for each n that `unpack_row` and `unpack_onward_by` pass.
-fn put_two(part: &mut [u8], i: usize, columns: &[u8; 8192], j: usize)
-    requires { ⌜ (4 * i + 8 ≤ length (now part)) × (j + 2 ≤ 2048) ⌝ }
-    ensures { λ _. ⌜ now (part .exit) ≡ putPixel (putPixel (now (part .entry)) i (pixels (now (columns .entry)) j)) (i + 1) (pixels (now (columns .entry)) (j + 1)) ⌝ }
+// The byte of packed pixel k.
+fn packed_byte(part: &[u8], k: usize) -> usize
+    requires { ⌜ 4 * k + 4 ≤ length (now part) ⌝ }
+    ensures { λ r. ⌜ (r ≡ pixels (now (part .entry)) k .green) × (r < 256) ⌝ }
 {
-    let u = word_at(columns, j);
-    let v = word_at(columns, j + 1);
-    put_word(part, i, u);
-    put_word(part, i + 1, v);
+    part[4 * k + 1] as usize
 }
 
-// Four likewise: sixteen bytes at once.
-fn put_four(part: &mut [u8], i: usize, columns: &[u8; 8192], j: usize)
+// Column x of the row whose packed pixels `part` starts with.
+fn column_at(part: &[u8], x: usize, n: usize, columns: &[u8; 8192]) -> u32
+    requires { ⌜ Places n × (4 * x + 4 ≤ length (now part)) ⌝ }
+    ensures { λ r. ⌜ ((e : Picture) (first : ℕ) → ColumnsOf n e (now (columns .entry)) → unword r ≡ rowOf n e (pixels (now (part .entry))) first (first + x)) ⌝ }
+{
+    word_at(columns, packed_byte(part, x / n) * n + x % n)
+}
+
+// Four columns, all of them read before one is written.
+fn unpack_four(part: &mut [u8], first: usize, x: usize, n: usize, columns: &[u8; 8192])
+    requires { ⌜ Places n × (4 * (first + x) + 16 ≤ length (now part)) ⌝ }
+    ensures { λ _. ⌜ Columns n (now (columns .entry)) first x 4 (now (part .entry)) (now (part .exit)) ⌝ }
+{
+    let s = column_at(part, x, n, columns);
+    let t = column_at(part, x + 1, n, columns);
+    let u = column_at(part, x + 2, n, columns);
+    let v = column_at(part, x + 3, n, columns);
+    put_four(part, first + x, s, t, u, v);
+}
+
+// The first 4 * count columns.
+fn unpack_fours(part: &mut [u8], first: usize, count: usize, n: usize, columns: &[u8; 8192])
+    requires { ⌜ Places n × (4 * (first + 4 * count) ≤ length (now part)) ⌝ }
+    ensures { λ _. ⌜ Columns n (now (columns .entry)) first 0 (4 * count) (now (part .entry)) (now (part .exit)) ⌝ }
+{
+    let mut q = count;
+    while 0 < q {
+        q -= 1;
+        unpack_four(part, first, 4 * q, n, columns);
+    }
+}
+
+// Pixels j to j + 3 of `columns` as pixels i to i + 3.
+fn put_columns(part: &mut [u8], i: usize, columns: &[u8; 8192], j: usize)
     requires { ⌜ (4 * i + 16 ≤ length (now part)) × (j + 4 ≤ 2048) ⌝ }
-    ensures { λ _. ⌜ now (part .exit) ≡ putPixel (putPixel (putPixel (putPixel (now (part .entry)) i (pixels (now (columns .entry)) j)) (i + 1) (pixels (now (columns .entry)) (j + 1))) (i + 2) (pixels (now (columns .entry)) (j + 2))) (i + 3) (pixels (now (columns .entry)) (j + 3)) ⌝ }
+    ensures { λ _. ⌜ ((f : Picture) → FourIn f i j (now (columns .entry)) → now (part .exit) ≡ run pixelCells (given f) i 4 (now (part .entry))) ⌝ }
 {
-    let t = word_at(columns, j);
-    let u = word_at(columns, j + 1);
-    let v = word_at(columns, j + 2);
-    let w = word_at(columns, j + 3);
-    put_word(part, i, t);
-    put_word(part, i + 1, u);
-    put_word(part, i + 2, v);
-    put_word(part, i + 3, w);
+    let s = word_at(columns, j);
+    let t = word_at(columns, j + 1);
+    let u = word_at(columns, j + 2);
+    let v = word_at(columns, j + 3);
+    put_four(part, i, s, t, u, v);
 }
 
-// The n columns of `byte`, from pixel a on: by fours, since what takes time is the number of stores, and from the right, as records of eight columns are done.
-fn expand(part: &mut [u8], a: usize, n: usize, byte: u8, columns: &[u8; 8192])
-    requires { ⌜ (n % 2 ≡ 0) × (n ≤ 8) × (4 * (a + n) ≤ length (now part)) ⌝ }
-    ensures { λ _. ⌜ ((u : ℕ) (e : Picture) → ColumnsOf u n e (now (columns .entry)) → now (part .exit) ≡ run pixelCells (given (spread u e byte a)) a n (now (part .entry))) ⌝ }
+// The columns of packed pixel k, where it holds eight indices.
+fn unpack_eight(part: &mut [u8], first: usize, k: usize, columns: &[u8; 8192])
+    requires { ⌜ 4 * (first + 8 * k) + 32 ≤ length (now part) ⌝ }
+    ensures { λ _. ⌜ Columns 8 (now (columns .entry)) first (8 * k) 8 (now (part .entry)) (now (part .exit)) ⌝ }
 {
-    let from = byte as usize * n;
-    let mut k = n;
-    while 4 <= k {
-        k -= 4;
-        put_four(part, a + k, columns, from + k);
-    }
-    if 0 < k {
-        put_two(part, a, columns, from);
-    }
+    let j = packed_byte(part, k) * 8;
+    let i = first + 8 * k;
+    put_columns(part, i + 4, columns, j + 4);
+    put_columns(part, i, columns, j);
 }
 
-// The first `count` columns of `byte`, from pixel a on.
-fn expand_last(part: &mut [u8], a: usize, count: usize, n: usize, byte: u8, columns: &[u8; 8192])
-    requires { ⌜ (count ≤ n) × (n ≤ 8) × (4 * (a + count) ≤ length (now part)) ⌝ }
-    ensures { λ _. ⌜ ((u : ℕ) (e : Picture) → ColumnsOf u n e (now (columns .entry)) → now (part .exit) ≡ run pixelCells (given (spread u e byte a)) a count (now (part .entry))) ⌝ }
-{
-    let from = byte as usize * n;
-    let mut k = 0;
-    while k < count {
-        put_word(part, a + k, word_at(columns, from + k));
-        k += 1;
-    }
-}
-
-// The columns of packed pixel k of the row that starts at pixel `first`.
-fn unpack_pixel(part: &mut [u8], first: usize, k: usize, n: usize, columns: &[u8; 8192])
-    requires { ⌜ (n % 2 ≡ 0) × (1 ≤ n) × (n ≤ 8) × (4 * (first + k * n + n) ≤ length (now part)) ⌝ }
-    ensures { λ _. ⌜ ((u : ℕ) (e : Picture) → ColumnsOf u n e (now (columns .entry)) → now (part .exit) ≡ run pixelCells (given (rowOf u n e (pixels (now (part .entry))) first)) (first + k * n) n (now (part .entry))) ⌝ }
-{
-    let byte = packed_byte(part, k);
-    expand(part, first + k * n, n, byte, columns);
-}
-
-// The columns of the first `count` packed pixels.
-fn unpack_pixels(part: &mut [u8], first: usize, count: usize, n: usize, columns: &[u8; 8192])
-    requires { ⌜ (n % 2 ≡ 0) × (1 ≤ n) × (n ≤ 8) × (4 * (first + count * n) ≤ length (now part)) ⌝ }
-    ensures { λ _. ⌜ ((u : ℕ) (e : Picture) → ColumnsOf u n e (now (columns .entry)) → now (part .exit) ≡ run pixelCells (given (rowOf u n e (pixels (now (part .entry))) first)) first (count * n) (now (part .entry))) ⌝ }
+// The columns of the first `count` packed pixels, where each holds eight.
+fn unpack_eights(part: &mut [u8], first: usize, count: usize, columns: &[u8; 8192])
+    requires { ⌜ 4 * (first + 8 * count) ≤ length (now part) ⌝ }
+    ensures { λ _. ⌜ Columns 8 (now (columns .entry)) first 0 (8 * count) (now (part .entry)) (now (part .exit)) ⌝ }
 {
     let mut k = count;
     while 0 < k {
         k -= 1;
-        unpack_pixel(part, first, k, n, columns);
+        unpack_eight(part, first, k, columns);
     }
 }
 
-// The same from the left, where the columns start behind the packed pixels.
-fn unpack_onward(part: &mut [u8], first: usize, count: usize, n: usize, columns: &[u8; 8192])
-    requires { ⌜ (n % 2 ≡ 0) × (1 ≤ n) × (n ≤ 8) × (count ≤ first) × (4 * (first + count * n) ≤ length (now part)) ⌝ }
-    ensures { λ _. ⌜ ((u : ℕ) (e : Picture) → ColumnsOf u n e (now (columns .entry)) → now (part .exit) ≡ run pixelCells (given (rowOf u n e (pixels (now (part .entry))) first)) first (count * n) (now (part .entry))) ⌝ }
+// The first 8 * count columns: in each arm n is a constant, for which the loop is compiled.
+fn unpack_by(part: &mut [u8], first: usize, count: usize, n: usize, columns: &[u8; 8192])
+    requires { ⌜ Places n × (4 * (first + 8 * count) ≤ length (now part)) ⌝ }
+    ensures { λ _. ⌜ Columns n (now (columns .entry)) first 0 (8 * count) (now (part .entry)) (now (part .exit)) ⌝ }
 {
-    let mut k = 0;
-    while k < count {
-        unpack_pixel(part, first, k, n, columns);
-        k += 1;
+    if n == 8 {
+        unpack_eights(part, first, count, columns);
+    } else if n == 4 {
+        unpack_fours(part, first, 2 * count, 4, columns);
+    } else if n == 2 {
+        unpack_fours(part, first, 2 * count, 2, columns);
+    } else {
+        unpack_fours(part, first, 2 * count, 1, columns);
     }
 }
 
-// The columns of the last packed pixel, number k, which may be partial.
-fn unpack_last(
+// Columns `from` up to `width`, one by one.
+fn unpack_rest(
     part: &mut [u8],
     first: usize,
-    k: usize,
+    from: usize,
     width: usize,
     n: usize,
     columns: &[u8; 8192],
 )
-    requires { ⌜ (1 ≤ n) × (k * n < width) × (width ≤ k * n + n) × (n ≤ 8) × (4 * (first + width) ≤ length (now part)) ⌝ }
-    ensures { λ _. ⌜ ((u : ℕ) (e : Picture) → ColumnsOf u n e (now (columns .entry)) → now (part .exit) ≡ run pixelCells (given (rowOf u n e (pixels (now (part .entry))) first)) (first + k * n) (width - k * n) (now (part .entry))) ⌝ }
+    requires { ⌜ Places n × (from ≤ width) × (4 * (first + width) ≤ length (now part)) ⌝ }
+    ensures { λ _. ⌜ Columns n (now (columns .entry)) first from (width - from) (now (part .entry)) (now (part .exit)) ⌝ }
 {
-    let byte = packed_byte(part, k);
-    expand_last(part, first + k * n, width - k * n, n, byte, columns);
-}
-
-// From the left: in each arm n is a constant, for which the loops are compiled.
-fn unpack_onward_by(part: &mut [u8], first: usize, count: usize, n: usize, columns: &[u8; 8192])
-    requires { ⌜ (n % 2 ≡ 0) × (1 ≤ n) × (n ≤ 4) × (count ≤ first) × (4 * (first + count * n) ≤ length (now part)) ⌝ }
-    ensures { λ _. ⌜ ((u : ℕ) (e : Picture) → ColumnsOf u n e (now (columns .entry)) → now (part .exit) ≡ run pixelCells (given (rowOf u n e (pixels (now (part .entry))) first)) first (count * n) (now (part .entry))) ⌝ }
-{
-    if n == 4 {
-        unpack_onward(part, first, count, 4, columns);
-    } else {
-        unpack_onward(part, first, count, 2, columns);
+    let mut x = width;
+    while from < x {
+        x -= 1;
+        put_word(part, first + x, column_at(part, x, n, columns));
     }
 }
 
-// From the right, as every row can be done.
-fn unpack_over(part: &mut [u8], first: usize, width: usize, n: usize, columns: &[u8; 8192])
-    requires { ⌜ (n % 2 ≡ 0) × (1 ≤ n) × (n ≤ 8) × (1 ≤ width) × (4 * (first + width) ≤ length (now part)) ⌝ }
-    ensures { λ _. ⌜ ((u : ℕ) (e : Picture) → ColumnsOf u n e (now (columns .entry)) → now (part .exit) ≡ run pixelCells (given (rowOf u n e (pixels (now (part .entry))) first)) first width (now (part .entry))) ⌝ }
-{
-    let k = (width + n - 1) / n - 1;
-    unpack_last(part, first, k, width, n, columns);
-    unpack_pixels(part, first, k, n, columns);
-}
-
-// A row: `part` starts with its packed pixels, and its columns go to `width` pixels from pixel `first` on. Where they start behind the packed pixels, as they do but in the top rows, records of
-// up to four columns go from the left: from the right an Intel takes up to 1.7 times as long unless the buffer starts at a multiple of 16. Records of eight go from the right, which is fastest where it does.
+// A row: `part` starts with its packed pixels, and its columns go to `width` pixels from pixel `first` on.
 fn unpack_row(part: &mut [u8], first: usize, width: usize, n: usize, columns: &[u8; 8192])
-    requires { ⌜ (n % 2 ≡ 0) × (1 ≤ n) × (n ≤ 8) × (n ≡ 6 → ⊥) × (1 ≤ width) × (4 * (first + width) ≤ length (now part)) ⌝ }
-    ensures { λ _. ⌜ ((u : ℕ) (e : Picture) → ColumnsOf u n e (now (columns .entry)) → now (part .exit) ≡ run pixelCells (given (rowOf u n e (pixels (now (part .entry))) first)) first width (now (part .entry))) ⌝ }
+    requires { ⌜ Places n × (4 * (first + width) ≤ length (now part)) ⌝ }
+    ensures { λ _. ⌜ Columns n (now (columns .entry)) first 0 width (now (part .entry)) (now (part .exit)) ⌝ }
 {
-    if n == 8 {
-        unpack_over(part, first, width, 8, columns);
-        return;
-    }
-    let k = (width + n - 1) / n - 1;
-    if k < first {
-        unpack_onward_by(part, first, k, n, columns);
-        unpack_last(part, first, k, width, n, columns);
-    } else {
-        unpack_over(part, first, width, n, columns);
-    }
+    let eights = width / 8;
+    unpack_rest(part, first, 8 * eights, width, n, columns);
+    unpack_by(part, first, eights, n, columns);
 }
 
 // Row y of the picture. Its part of the buffer goes from its packed pixels to its last column.
-fn unpack_row_at(
+pub fn unpack_row_at(
     image: &mut [u8],
     y: usize,
     packed: Packed,
@@ -177,75 +149,14 @@ fn unpack_row_at(
     size: usize,
     columns: &[u8; 8192],
 )
-    requires { ⌜ (size ≤ 16) × (1 ≤ expanded .0) × (packed .0 ≡ packedWidth size (expanded .0)) × (4 * (y * expanded .0 + expanded .0) ≤ length (now image)) ⌝ }
-    ensures { λ _. ⌜ ((e : Picture) → ColumnsOf (range (perPixel size)) (perPixel size) (entry size e) (now (columns .entry)) → now (image .exit) ≡ run pixelCells (given (unpacked (expanded .0) size e (pixels (now (image .entry))))) (y * expanded .0) (expanded .0) (now (image .entry))) ⌝ }
+    requires { ⌜ (1 ≤ expanded .0) × (packed .0 ≡ packedWidth size (expanded .0)) × (4 * (y * expanded .0 + expanded .0) ≤ length (now image)) ⌝ }
+    ensures { λ _. ⌜ ((e : Picture) → ColumnsOf (perPixel size) (entry size e) (now (columns .entry)) → now (image .exit) ≡ run pixelCells (given (unpacked (expanded .0) size e (pixels (now (image .entry))))) (y * expanded .0) (expanded .0) (now (image .entry))) ⌝ }
 {
     let c = packed.0;
     let w = expanded.0;
     let a = 4 * (y * c);
     let b = 4 * (y * w + w);
     unpack_row(&mut image[a..b], y * w - y * c, w, per_pixel(size), columns);
-}
-
-// The rows of a picture whose packed pixels hold several indices, from the bottom.
-fn unpack_rows(image: &mut [u8], width: usize, height: usize, size: usize, columns: &[u8; 8192])
-    requires { ⌜ Sized width height ⌝ }
-    requires { ⌜ Holds width height (now image) ⌝ }
-    requires { ⌜ size ≤ 16 ⌝ }
-    ensures { λ _. ⌜ ((e : Picture) → ColumnsOf (range (perPixel size)) (perPixel size) (entry size e) (now (columns .entry)) → now (image .exit) ≡ run pixelCells (given (unpacked width size e (pixels (now (image .entry))))) 0 (height * width) (now (image .entry))) ⌝ }
-{
-    let packed = packed_width(Expanded(width), size);
-    let mut y = height;
-    while 0 < y {
-        unpack_row_at(image, y - 1, packed, Expanded(width), size, columns);
-        y -= 1;
-    }
-}
-
-// Row y of a picture whose packed pixels hold one index each.
-fn look_up_row_at(image: &mut [u8], y: usize, expanded: Expanded, table: &[[u8; 4]; 256])
-    requires { ⌜ 4 * (y * expanded .0 + expanded .0) ≤ length (now image) ⌝ }
-    ensures { λ _. ⌜ now (image .exit) ≡ run pixelCells (given (looked (entryIn (now (table .entry))) (pixels (now (image .entry))))) (y * expanded .0) (expanded .0) (now (image .entry)) ⌝ }
-{
-    let w = expanded.0;
-    let a = 4 * (y * w);
-    let b = a + 4 * w;
-    look_up_rest(&mut image[a..b], 0, w, table);
-}
-
-// Rows y and half + y, whose part of the buffer goes from the first pixel of the one to the last of the other.
-fn look_up_pair_at(
-    image: &mut [u8],
-    y: usize,
-    half: usize,
-    expanded: Expanded,
-    table: &[[u8; 4]; 256],
-)
-    requires { ⌜ (1 ≤ half) × (4 * ((half + y) * expanded .0 + expanded .0) ≤ length (now image)) ⌝ }
-    ensures { λ _. ⌜ now (image .exit) ≡ run pixelCells (given (looked (entryIn (now (table .entry))) (pixels (now (image .entry))))) ((half + y) * expanded .0) (expanded .0) (run pixelCells (given (looked (entryIn (now (table .entry))) (pixels (now (image .entry))))) (y * expanded .0) (expanded .0) (now (image .entry))) ⌝ }
-{
-    let w = expanded.0;
-    let far = half * w;
-    let a = 4 * (y * w);
-    let b = a + 4 * (far + w);
-    look_up_pair(&mut image[a..b], far, w, table);
-}
-
-// The rows of such a picture: a row of the upper half and one of the lower at a time, and the last one by itself where their number is odd.
-fn look_up_rows(image: &mut [u8], width: usize, height: usize, table: &[[u8; 4]; 256])
-    requires { ⌜ Sized width height ⌝ }
-    requires { ⌜ Holds width height (now image) ⌝ }
-    ensures { λ _. ⌜ now (image .exit) ≡ run pixelCells (given (looked (entryIn (now (table .entry))) (pixels (now (image .entry))))) 0 (height * width) (now (image .entry)) ⌝ }
-{
-    let half = height / 2;
-    let mut y = 0;
-    while y < half {
-        look_up_pair_at(image, y, half, Expanded(width), table);
-        y += 1;
-    }
-    if half + half < height {
-        look_up_row_at(image, half + half, Expanded(width), table);
-    }
 }
 
 // The whole picture, in one buffer.
@@ -261,11 +172,11 @@ pub fn apply_color_indexing_transform(
     requires { ⌜ (1 ≤ size) × (size ≤ 256) × (4 * size ≤ length (now entries)) ⌝ }
     ensures { λ _. ⌜ now (image .exit) ≡ written (height * width) (unpacked width size (pixels (now (entries .entry))) (pixels (now (image .entry)))) (now (image .entry)) ⌝ }
 {
-    let table = padded(entries, size);
-    if size <= 16 {
-        let columns = columns_of(table, per_pixel(size), index_range(size));
-        unpack_rows(image, width, height, size, &columns);
-    } else {
-        look_up_rows(image, width, height, &table);
+    let columns = columns_of_table(entries, size);
+    let packed = packed_width(Expanded(width), size);
+    let mut y = height;
+    while 0 < y {
+        unpack_row_at(image, y - 1, packed, Expanded(width), size, &columns);
+        y -= 1;
     }
 }

@@ -7,3 +7,4 @@ pub mod Blocks
 pub mod Given
 pub mod Rows
 pub mod Held
+pub mod Places

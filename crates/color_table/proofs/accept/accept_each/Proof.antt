@@ -4,13 +4,13 @@ use mathlib.Core.Path.{_≡_}
 use Prim.Native.Nat.{_≤_, _-_}
 use native.Mathlib.Omega.{arith}
 use Rattle.format.specs.Picture.{pixels}
-use Rattle.format.specs.ColorTable.{accepted}
+use Rattle.format.specs.ColorTable.{haveEntries}
 use Rattle.color_table.proofs.Index.{accepted-more, accepted-not, accepted-done}
 use Rattle.color_table.proofs.accept.accept_each.Statement.{statement}
 use Rattle.color_table.proofs.accept.accept_each.Tie as tie
 
 abbrev Inv-loop : tie.InvT-loop
-Inv-loop row from to entries size hints i₀ i = (i ≤ to) × (accepted size (pixels entries) i (pixels row) ≡ true)
+Inv-loop row from to entries size hints i₀ i = (i ≤ to) × (haveEntries size (pixels entries) i (pixels row) ≡ true)
 
 abbrev μ-loop : tie.MeasureT-loop
 μ-loop row from to entries size hints i₀ i = to - i

@@ -5,7 +5,7 @@ use Prim.Native.Nat.{_≤_, _+_, _-_, _%_}
 use native.Mathlib.Omega.{arith}
 use borrow.Author.Tests.{not-true, not-false}
 use Rattle.format.specs.Picture.{pixels}
-use Rattle.format.specs.ColorTable.{hasEntry, accepted}
+use Rattle.format.specs.ColorTable.{hasEntry, haveEntries}
 use Rattle.pixel.specs.Word.{unword}
 use Rattle.color_table.proofs.Index.{entry-accepted, taken-entry, accepted-front, accepted-fewer, accepted-done}
 use Rattle.color_table.proofs.accept.accept_groups.Statement.{statement}
@@ -13,7 +13,7 @@ use Rattle.color_table.proofs.accept.accept_groups.Tie as tie
 
 abbrev Inv-loop : tie.InvT-loop
 Inv-loop row count entries size hints a₀ i₀ a i =
-    (i % 16 ≡ 0) × (i ≤ count) × (accepted size (pixels entries) i (pixels row) ≡ true) × (hasEntry size (pixels entries) (unword a) ≡ true)
+    (i % 16 ≡ 0) × (i ≤ count) × (haveEntries size (pixels entries) i (pixels row) ≡ true) × (hasEntry size (pixels entries) (unword a) ≡ true)
 
 abbrev μ-loop : tie.MeasureT-loop
 μ-loop row count entries size hints a₀ i₀ a i = count - i

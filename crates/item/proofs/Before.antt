@@ -2,14 +2,13 @@
 use mathlib.Core.List.{List}
 use mathlib.Core.Path.{_≡_, subst}
 use Prim.Native.Nat.{ℕ, suc, _-_, _+_, _*_, _/_, _%_, _<_, _≤_}
-use native.Mathlib.Nat.{mod-lt}
+use native.Mathlib.Nat.{mod-lt, mul-le-mul}
 use native.Mathlib.Omega.{arith}
 use lib.ListN.{length}
 use Rattle.format.specs.Sizes.{Sized}
 use Rattle.format.specs.ColorTable.{packedWidth}
 use Rattle.format.proofs.ByKind.{narrowed-table, narrowed-other}
 use Rattle.format.proofs.Stages.{narrowed-pos, narrowed-fewer}
-use Rattle.color_table.proofs.Records.{column-small}
 use Rattle.chain.specs.declared.Chain.{Chain}
 use Rattle.chain.specs.Valid.{Valid, HoldsPicture, stepsOf, widthAfter}
 use Rattle.chain.proofs.Valid.{step-sized}
@@ -59,4 +58,4 @@ module _ (c : Chain) (ds : List ℕ) (v : Valid c ds) (k : ℕ) (u : k < c .coun
     pub records-column : (q x m : ℕ) → x ≡ q % p → m ≤ 8 → x * m ≤ 131072
     records-column q x m e l =
         let f : p ≤ stepsOf c k .width = rw (row, ← narrowed-table (stepsOf c k) table) (narrowed-fewer (stepsOf c k)) in
-        column-small x m (omega (arith, mod-lt q records-some, sized-here .narrow)) l
+        mul-le-mul {n₁ = x} {m₁ = m} {n₂ = 16384} {m₂ = 8} (omega (arith, mod-lt q records-some, sized-here .narrow)) l

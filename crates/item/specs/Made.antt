@@ -24,4 +24,6 @@ mapped h m = whenMade m (λ v. Item (h v))
 -- the residual of an item by its neighbors
 unfoldable pub residualMade : ℕ → Made → Made → Made → Made → Made → Made
 residualMade mode v l t tr tl =
-    whenMade v (λ v. whenMade l (λ l. whenMade t (λ t. whenMade tr (λ tr. whenMade tl (λ tl. Item (each sub v (predict mode l t tr tl)))))))
+    whenMade v
+    (λ v.
+    whenMade l (λ l. whenMade t (λ t. whenMade tr (λ tr. whenMade tl (λ tl. Item (each sub v (predict mode l t tr tl)))))))

@@ -35,7 +35,8 @@ neighborAt w x y n = getD (left w index x y ∷ top w index x y ∷ topRight w i
 
 -- what making neighbor n of a place before record k gives, where the mode names it
 abbrev pub neighborMade : (ℕ → Step) → List ℕ → ℕ → Picture → ℕ → ℕ → Place → Made
-neighborMade steps ds k f mode n p = asked (namesNeighbor mode n) (madeItem steps ds k f (neighborAt (steps k .width) (p .x) (p .y) n))
+neighborMade steps ds k f mode n p =
+    asked (namesNeighbor mode n) (madeItem steps ds k f (neighborAt (steps k .width) (p .x) (p .y) n))
 
 -- the mode that predicts column x of row y: of the first pixel 0, of the rest of row 0 and of column 0 the one that
 -- predicts L or T

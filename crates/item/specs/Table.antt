@@ -30,7 +30,8 @@ recordMade steps ds k f y n x =
 unfoldable pub joinedMade : ℕ → Picture → Made → Made → Made
 joinedMade size e first rest =
     whenMade first
-    (λ v. whenMade rest (λ p. if hasEntry size e v then Item (pixel 0 (indexOf size e v + range (perPixel size) * p .green) 0 255) else Missing))
+    (λ v. whenMade rest
+    (λ p. if hasEntry size e v then Item (pixel 0 (indexOf size e v + range (perPixel size) * p .green) 0 255) else Missing))
 
 -- one more index goes into a record
 abbrev pub Room : ℕ → Made → Type 0

@@ -10,6 +10,7 @@ pub mod transform;
 use crate::around::neighbor_index;
 use crate::block::mode_at;
 use crate::place::Place;
+use crate::place::expanded_index;
 use crate::place::expanded_place;
 use crate::place::packed_place;
 use crate::predict::black_of;
@@ -123,7 +124,8 @@ fn neighbor(
 ) -> Made
     requires { ⌜ Source chain (now «data») (now picture) × (k < chain .count) × (n < 4) ⌝ }
     requires { ⌜ (at .x < stepsOf chain k .width) × (at .y < chain .height) ⌝ }
-    ensures { λ r. ⌜ r ≡ neighborMade (stepsOf chain) (now («data» .entry)) k (shown (now (picture .entry)) point) mode n at ⌝ }
+    ensures { λ r. ⌜ r ≡ neighborMade (stepsOf chain) (now («data» .entry)) k (shown (now (picture .entry)) point)
+        mode n at ⌝ }
 {
     if !names(mode, n) {
         return Made::Item(black_of(0));
@@ -155,7 +157,7 @@ fn packed(
     if s.width <= x {
         return Made::Item(record_of(0));
     }
-    let q = y * s.width + x;
+    let q = expanded_index(x, y, Expanded(s.width));
     let first = item(chain, k, q, data, picture, point);
     let rest = packed(chain, k, n - 1, x + 1, y, data, picture, point);
     joined(s, data, first, rest)

@@ -29,6 +29,14 @@ pub fn packed_place(q: usize, row: Packed) -> Place
     Place { x: q % w, y: q / w }
 }
 
+// The item at column x of row y of a stage before a table.
+pub fn expanded_index(x: usize, y: usize, row: Expanded) -> usize
+    requires { ⌜ y * row .0 + x < 18446744073709551616 ⌝ }
+    ensures { λ r. ⌜ r ≡ y * row .0 + x ⌝ }
+{
+    y * row.0 + x
+}
+
 // The packed pixel at column x of row y.
 pub fn packed_index(x: usize, y: usize, row: Packed) -> usize
     requires { ⌜ y * row .0 + x < 18446744073709551616 ⌝ }

@@ -28,6 +28,9 @@ module _ (w h : ℕ) (cs ds picture strip : List ℕ) (x y : ℕ) (v : Pixel) wh
   abbrev Answered : ℕ → List ℕ → List ℕ → Type 0
   Answered r ps ss = (r ≡ answer) × ((ps ≡ retouchPicture w h cs ds picture strip x y v) × (ss ≡ retouchStrip w h cs ds picture strip x y v))
 
+  abbrev at : ℕ → Point
+  at i = record { index = i; color = v }
+
   abbrev new : Picture
   new = painted w (pixels picture) x y v
 
@@ -65,16 +68,14 @@ module _ (w h : ℕ) (cs ds picture strip : List ℕ) (x y : ℕ) (v : Pixel) wh
         of : ChainOf w h cs c
         of = opened .of none
 
-        abbrev point : Point
-        point = record { index = y * w + x; color = v }
-
         area : pixelsIn c ≡ h * w
         area = rw (of .height, of .width) refl
 
-        pub index-inside : y * w + x < pixelsIn c
-        index-inside = rw area (omega (arith, row-there w h y row))
+        -- the point's index
+        pub index-inside : y * c .width .0 + x < pixelsIn c
+        index-inside = rw (area, of .width) (omega (arith, row-there w h y row))
 
-        pub index-small : y * w + x < 16384 * 16384
+        pub index-small : y * c .width .0 + x < 16384 * 16384
         index-small = let i = index-inside in let m = pixels-few c ds (opened .valid none) in omega arith
 
         wide : recordsIn c ≡ records w h cs
@@ -84,10 +85,11 @@ module _ (w h : ℕ) (cs ds picture strip : List ℕ) (x y : ℕ) (v : Pixel) wh
         unfolding retouchAnswer
         here = rw (valid, lt-ltb x w column, lt-ltb y h row) refl
 
-        pub answered : (r : ℕ) (ps ss : List ℕ) → r ≡ answerBy c ds picture strip point → ps ≡ pictureLeft c picture point r → ss ≡ stripLeft c ds picture strip point r
-            → Answered r ps ss
+        pub answered : (i : ℕ) → i ≡ y * c .width .0 + x → (r : ℕ) (ps ss : List ℕ) → r ≡ answerBy c ds picture strip (at i)
+            → ps ≡ pictureLeft c picture (at i) r → ss ≡ stripLeft c ds picture strip (at i) r → Answered r ps ss
         unfolding retouchPicture retouchStrip
-        answered r ps ss a p s =
-            let q = rw (wide, of .count, pointAnswer-steps (stepsOf c) (stepAt cs w) h ds new (pixels strip) (count cs) (of .steps .at) (records w h cs) (y * w + x)) at a in
+        answered i j r ps ss a p s =
+            let k : i ≡ y * w + x = j ∙ rw (of .width) refl in
+            let q = rw (k, wide, of .count, pointAnswer-steps (stepsOf c) (stepAt cs w) h ds new (pixels strip) (count cs) (of .steps .at) (records w h cs) (y * w + x)) at a in
             let e : r ≡ answer = q ∙ sym here in
-            (e, (p ∙ rw (e, area) refl, s ∙ rw (e, wide, of .count, newStrip-steps (stepsOf c) (stepAt cs w) h ds new (pixels strip) (count cs) (of .steps .at) ((y * w + x) ∷ [])) refl))
+            (e, (p ∙ rw (k, e, area) refl, s ∙ rw (k, e, wide, of .count, newStrip-steps (stepsOf c) (stepAt cs w) h ds new (pixels strip) (count cs) (of .steps .at) ((y * w + x) ∷ [])) refl))

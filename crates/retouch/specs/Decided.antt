@@ -2,18 +2,24 @@
 use mathlib.Core.Bool.{Bool, true}
 use mathlib.Core.List.{List, [], _∷_}
 use mathlib.Core.Path.{_≡_}
-use Prim.Native.Nat.{ℕ}
+use Prim.Native.Nat.{ℕ, _<_}
 use Rattle.format.specs.Choice.{if_then_else_}
 use Rattle.format.specs.Picture.{Picture, pixels, written}
 use Rattle.format.specs.Refusals.{accepted}
 use Rattle.format.specs.Retouch.{spotRecords, newStrip, pointAnswer}
 use Rattle.chain.specs.declared.Chain.{Chain}
-use Rattle.chain.specs.Valid.{stepsOf, pixelsIn, recordsIn, storedBy}
+use Rattle.chain.specs.Valid.{HoldsStrip, stepsOf, pixelsIn, recordsIn, storedBy}
 use Rattle.item.specs.declared.Point.{Point}
-use Rattle.item.specs.Source.{shown}
+use Rattle.item.specs.Source.{shown, Source}
 use Rattle.retouch.specs.declared.decide.Decision.{Decision}
 use Rattle.retouch.specs.Spots.{Sound, recordsOf}
 use Rattle.retouch.specs.Remade.{MadeTo}
+
+-- a valid chain, its picture and its strip in buffers, and a point inside
+pub record Retouchable (c : Chain) (ds picture strip : List ℕ) (point : Point) : Type 0 where
+  pub source : Source c ds picture
+  pub room : HoldsStrip c strip
+  pub inside : point .index < pixelsIn c
 
 -- the picture after the call, by the number that it answers
 abbrev pub pictureLeft : Chain → List ℕ → Point → ℕ → List ℕ
@@ -41,4 +47,5 @@ module _ (c : Chain) (ds picture strip : List ℕ) (point : Point) where
     pub records : recordsOf (d .spots) ≡ touchedBy
     pub sound : Sound (d .spots)
     pub made : accepted (d .answer) ≡ true
-        → MadeTo (d .spots .count) (storedBy c ds (c .count) (shown picture point)) (recordsIn c) (d .spots .records) (d .records)
+        → MadeTo (d .spots .count) (storedBy c ds (c .count) (shown picture point)) (recordsIn c) (d .spots .records)
+        (d .records)

@@ -35,9 +35,12 @@ abbrev pub seenBefore : List ℕ → ℕ → List ℕ
 seenBefore rs zero = []
 seenBefore rs (suc k) = getD rs k 0 ∷ seenBefore rs k
 
--- spot k is marked, where its record is made as v: it is one of the first n, the strip f has another there, and no earlier spot has it
+-- spot k is marked, where its record is made as v: it is one of the first n, the strip f has another there, and no
+-- earlier spot has it
 abbrev pub marked : ℕ → Picture → List ℕ → ℕ → Pixel → Bool
-marked n f rs k v = (ltb (getD rs k 0) n && not (equal (f (getD rs k 0)) v)) && not (among (getD rs k 0) (seenBefore rs k))
+marked n f rs k v =
+    let r = getD rs k 0 in
+    (ltb r n && not (equal (f r) v)) && not (among r (seenBefore rs k))
 
 -- what making record r of the strip gives; any pixel stands for one past the strip
 abbrev pub madeInside : Chain → List ℕ → Picture → ℕ → Made

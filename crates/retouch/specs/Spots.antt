@@ -24,7 +24,12 @@ pub record Sound (s : Spots) : Type 0 where
 -- five records, each where the record s of a chain puts it
 abbrev pub placesOf : Step → List ℕ → List ℕ
 placesOf s xs =
-    placeOf s (getD xs 0 0) ∷ placeOf s (getD xs 1 0) ∷ placeOf s (getD xs 2 0) ∷ placeOf s (getD xs 3 0) ∷ placeOf s (getD xs 4 0) ∷ []
+    placeOf s (getD xs 0 0)
+    ∷ placeOf s (getD xs 1 0)
+    ∷ placeOf s (getD xs 2 0)
+    ∷ placeOf s (getD xs 3 0)
+    ∷ placeOf s (getD xs 4 0)
+    ∷ []
 
 -- at most one record of the chain is a predictor, and each has its width
 pub record Followed (c : Chain) : Type 0 where

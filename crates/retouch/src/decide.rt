@@ -11,9 +11,7 @@ ghost use mathlib.Core.Path.{_≡_};
 ghost use Prim.Native.Nat.{_<_};
 ghost use lib.Count.{ones};
 ghost use Rattle.format.specs.Retouch.{answer};
-ghost use Rattle.chain.specs.Valid.{pixelsIn, HoldsStrip};
-ghost use Rattle.item.specs.Source.{Source};
-ghost use Rattle.retouch.specs.Decided.{Decided};
+ghost use Rattle.retouch.specs.Decided.{Retouchable, Decided};
 
 // `records` are those of the spots, where the answer is no refusal.
 pub struct Decision {
@@ -32,7 +30,7 @@ fn answer_of(mask: u32) -> u32
 
 // Test 22, then the mask, where the point is to be painted.
 pub fn decide(chain: Chain, data: &[u8], picture: &[u8], strip: &[u8], point: Point) -> Decision
-    requires { ⌜ Source chain (now «data») (now picture) × HoldsStrip chain (now strip) × (point .index < pixelsIn chain) ⌝ }
+    requires { ⌜ Retouchable chain (now «data») (now picture) (now strip) point ⌝ }
     ensures { λ d. ⌜ Decided chain (now («data» .entry)) (now (picture .entry)) (now (strip .entry)) point d ⌝ }
 {
     let spots = spots_of(chain, point.index);

@@ -6,13 +6,11 @@ use chain::Chain;
 use chain::open;
 use format::Pixel;
 use item::Point;
+use item::place::expanded_index;
 use pixel::pixel::put_pixel;
 ghost use mathlib.Core.Path.{_≡_};
-ghost use Prim.Native.Nat.{_<_};
 ghost use Rattle.format.specs.Calls.{retouchAnswer, retouchPicture, retouchStrip};
-ghost use Rattle.chain.specs.Valid.{pixelsIn, HoldsStrip};
-ghost use Rattle.item.specs.Source.{Source};
-ghost use Rattle.retouch.specs.Decided.{answerBy, pictureLeft, stripLeft};
+ghost use Rattle.retouch.specs.Decided.{Retouchable, answerBy, pictureLeft, stripLeft};
 
 // A valid chain whose buffers have room, and a point inside: what is decided is written, unless it is a refusal.
 fn retouch_valid(
@@ -22,10 +20,11 @@ fn retouch_valid(
     strip: &mut [u8],
     point: Point,
 ) -> u32
-    requires { ⌜ Source chain (now «data») (now picture) × HoldsStrip chain (now strip) × (point .index < pixelsIn chain) ⌝ }
+    requires { ⌜ Retouchable chain (now «data») (now picture) (now strip) point ⌝ }
     ensures { λ r. ⌜ r ≡ answerBy chain (now («data» .entry)) (now (picture .entry)) (now (strip .entry)) point ⌝ }
     ensures { λ r. ⌜ now (picture .exit) ≡ pictureLeft chain (now (picture .entry)) point r ⌝ }
-    ensures { λ r. ⌜ now (strip .exit) ≡ stripLeft chain (now («data» .entry)) (now (picture .entry)) (now (strip .entry)) point r ⌝ }
+    ensures { λ r. ⌜ now (strip .exit) ≡ stripLeft chain (now («data» .entry)) (now (picture .entry)) (now (strip .entry))
+        point r ⌝ }
 {
     let decision = decide(chain, data, picture, strip, point);
     if decision.answer < 256 {
@@ -50,9 +49,12 @@ pub fn retouch(
     y: usize,
     color: Pixel,
 ) -> u32
-    ensures { λ r. ⌜ r ≡ retouchAnswer width height (now (chain .entry)) (now («data» .entry)) (now (picture .entry)) (now (strip .entry)) x y color ⌝ }
-    ensures { λ r. ⌜ now (picture .exit) ≡ retouchPicture width height (now (chain .entry)) (now («data» .entry)) (now (picture .entry)) (now (strip .entry)) x y color ⌝ }
-    ensures { λ r. ⌜ now (strip .exit) ≡ retouchStrip width height (now (chain .entry)) (now («data» .entry)) (now (picture .entry)) (now (strip .entry)) x y color ⌝ }
+    ensures { λ r. ⌜ r ≡ retouchAnswer width height (now (chain .entry)) (now («data» .entry))
+        (now (picture .entry)) (now (strip .entry)) x y color ⌝ }
+    ensures { λ r. ⌜ now (picture .exit) ≡ retouchPicture width height (now (chain .entry)) (now («data» .entry))
+        (now (picture .entry)) (now (strip .entry)) x y color ⌝ }
+    ensures { λ r. ⌜ now (strip .exit) ≡ retouchStrip width height (now (chain .entry)) (now («data» .entry))
+        (now (picture .entry)) (now (strip .entry)) x y color ⌝ }
 {
     let opened = open(width, height, chain, data, picture, strip);
     if opened.refusal != 0 {
@@ -65,7 +67,7 @@ pub fn retouch(
         return 9;
     }
     let point = Point {
-        index: y * width + x,
+        index: expanded_index(x, y, opened.width),
         color,
     };
     retouch_valid(opened, data, picture, strip, point)

@@ -29,6 +29,7 @@ use Rattle.item.proofs.+item+neighbor+packed+residual.Lts-residual as r
 use Rattle.item.proofs.around.neighbor_index.Reads as neighbor-index-reads
 use Rattle.item.proofs.block.mode_at.Reads as mode-at-reads
 use Rattle.item.proofs.painted.Reads as painted-reads
+use Rattle.item.proofs.place.expanded_index.Reads as expanded-index-reads
 use Rattle.item.proofs.place.expanded_place.Reads as expanded-place-reads
 use Rattle.item.proofs.place.packed_place.Reads as packed-place-reads
 use Rattle.item.proofs.predict.black_of.Reads as black-of-reads
@@ -199,6 +200,8 @@ pub +item+neighbor+packed+residual-spec : {M : Type 1} → statement M
     (λ t. packed-lts.spec (
       record-of-reads.Asked,
       record-of-reads.Learnt,
+      expanded-index-reads.Asked,
+      expanded-index-reads.Learnt,
       item-below t,
       item.Post,
       packed-below t,
@@ -214,17 +217,13 @@ pub +item+neighbor+packed+residual-spec : {M : Type 1} → statement M
     (λ c. no-columns _ _ _ _ _ _ _ _ _ (c .before .if1 .taken) (c .record-of .ensures))
     (λ c κs. search needs)
     (λ c. columns-end _ _ _ _ _ _ _ _ _ (c .before .if2 .taken) (c .record-of2 .ensures))
-    (λ c.
-    let p = c .before .before .before .before .before .before .before .pre .1 in
-    let s = sized-here (c .before .before .before .before .before .before .before .args .t1) _ (p .0 .0 .valid) _ (p .0 .1) in
-    omega (arith, row-small _ (c .before .before .before .before .before .before .before .args .y) (s .narrow) (omega (arith, s .low, p .1 .0))))
-    (λ c.
-    let p = c .before .before .before .before .before .before .before .pre .1 in
-    let s = sized-here (c .before .before .before .before .before .before .before .args .t1) _ (p .0 .0 .valid) _ (p .0 .1) in
-    omega (arith, row-small _ (c .before .before .before .before .before .before .before .args .y) (s .narrow) (omega (arith, s .low, p .1 .0)), c .before .if2 .left, s .narrow))
+    (λ c κs.
+    let p = c .before .before .before .before .before .before .pre .1 in
+    let s = sized-here (c .before .before .before .before .before .before .args .t1) _ (p .0 .0 .valid) _ (p .0 .1) in
+    omega (arith, row-small _ (c .before .before .before .before .before .before .args .y) (s .narrow) (omega (arith, s .low, p .1 .0)), c .if2 .left, s .narrow))
     (λ c κs.
     let p = c .before .before .before .before .before .before .before .pre .1 in
-    (omega (arith, c .before .before .before .before .before .before .before .pre .0), (p .0 .0, omega (arith, p .0 .1), inside-before (c .before .before .before .before .before .before .before .args .t1) _ (p .0 .0 .valid) _ (p .0 .1) _ (item-inside _ _ _ _ (c .before .if2 .left) (p .1 .0)))))
+    (omega (arith, c .before .before .before .before .before .before .before .pre .0), (p .0 .0, omega (arith, p .0 .1), inside-before (c .before .before .before .before .before .before .before .args .t1) _ (p .0 .0 .valid) _ (p .0 .1) _ (rw (c .expanded-index .ensures) (item-inside _ _ _ _ (c .before .if2 .left) (p .1 .0))))))
     (λ c. omega arith)
     (λ c.
     let p = c .before .before .before .before .before .before .before .before .pre .1 in
@@ -237,7 +236,7 @@ pub +item+neighbor+packed+residual-spec : {M : Type 1} → statement M
     let v = p .0 .0 .valid .step _ (p .0 .1) in
     let t = v .table (p .0 .2) in
     (record { inside = v .inside; table = t }, record-room (stepsOf (c .before .before .before .before .before .before .before .before .before .args .t1)) _ (c .before .before .before .before .before .before .before .before .before .args .k) _ (p .0 .2) (t .most) _ (c .before .before .before .before .before .before .before .before .before .args .n - 1) _ _ (c .packed .ensures) (omega (arith, p .1 .1, c .before .before .before .before .before .if1 .left))))
-    (λ c. record-next _ _ _ _ (c .before .before .before .before .before .before .before .before .before .before .pre .1 .0 .2) _ _ _ _ _ _ _ (omega (arith, c .before .before .before .before .before .before .if1 .left)) (c .before .before .before .before .if2 .left) (c .joined .ensures) (c .before .before .item .ensures) (c .before .packed .ensures)))
+    (λ c. record-next _ _ _ _ (c .before .before .before .before .before .before .before .before .before .before .pre .1 .0 .2) _ _ _ _ _ _ _ (omega (arith, c .before .before .before .before .before .before .if1 .left)) (c .before .before .before .before .if2 .left) (c .joined .ensures) (rw (c .before .before .before .expanded-index .ensures) at (c .before .before .item .ensures)) (c .before .packed .ensures)))
     λ t. residual-lts.spec (
       expanded-place-reads.Asked,
       expanded-place-reads.Learnt,

@@ -12,10 +12,10 @@ pub decide-spec : {M : Type 1} → statement M
 decide-spec =
     tie.close
     (tie.spec
-    (λ c κs. let v = c .before .before .before .pre .0 .valid in (valid-followed _ _ v, omega (arith, c .before .before .before .pre .2, pixels-few _ _ v)))
+    (λ c κs. let v = c .before .before .before .pre .source .valid in (valid-followed _ _ v, omega (arith, c .before .before .before .pre .inside, pixels-few _ _ v)))
     (λ c κs. search needs)
     (λ c. decided-refused (c .before .before .before .before .before .before .before .before .args .chain) _ _ _ _ _ (c .before .before .before .before .spots-of .ensures .0) (c .before .before .before .before .spots-of .ensures .1) _ (c .before .before .before .remake .ensures) (c .if1 .taken) refl)
-    (λ c κs. records-few _ _ (c .before .before .before .before .before .before .before .before .pre .0 .valid))
+    (λ c κs. records-few _ _ (c .before .before .before .before .before .before .before .before .pre .source .valid))
     (λ c κs. search needs)
     (λ c κs. search needs)
     (λ c. decided-made (c .before .before .before .before .before .before .before .before .before .before .before .args .chain) _ _ _ _ _ (c .before .before .before .before .before .before .before .spots-of .ensures .0) (c .before .before .before .before .before .before .before .spots-of .ensures .1) _ (c .before .before .before .before .before .before .remake .ensures) _ (c .before .before .before .if1 .left) (c .answer-of .ensures) (rw (c .before .before .records-in .ensures) at (c .before .mask-of .ensures .0)) refl))

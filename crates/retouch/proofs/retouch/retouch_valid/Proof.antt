@@ -18,11 +18,11 @@ retouch-valid-spec =
     let n = left-refused _ _ _ _ _ _ d (c .if1 .taken) in
     (d .answer, (rw n refl, rw n refl)))
     (λ c κs. search needs)
-    (λ c κs. records-few _ _ (c .before .before .before .before .before .before .before .before .before .before .before .before .before .before .before .pre .0 .valid))
+    (λ c κs. records-few _ _ (c .before .before .before .before .before .before .before .before .before .before .before .before .before .before .before .pre .source .valid))
     (λ c κs. search needs)
     (λ c. search needs)
     (λ c. search needs)
     (λ c.
     let d = c .before .before .before .before .before .before .before .before .before .before .before .before .before .decide .ensures in
     let a = c .before .before .before .before .before .before .before .before .before .before .before .if1 .left in
-    (d .answer, (left-picture _ _ _ _ _ _ d a _ (c .before .before .before .before .before .before .before .before .before .before .before .before .before .before .before .before .before .before .before .pre .0 .held) (c .before .before .before .before .before .before .before .before .before .before .before .before .before .before .before .before .before .before .before .pre .2) (c .before .before .before .before .before .before .before .put-pixel .ensures), left-strip _ _ _ _ _ _ d a _ (rw (c .before .before .before .records-in .ensures) at (c .before .before .write .ensures))))))
+    (d .answer, (left-picture _ _ _ _ _ _ d a _ (c .before .before .before .before .before .before .before .before .before .before .before .before .before .before .before .before .before .before .before .pre .source .held) (c .before .before .before .before .before .before .before .before .before .before .before .before .before .before .before .before .before .before .before .pre .inside) (c .before .before .before .before .before .before .before .put-pixel .ensures), left-strip _ _ _ _ _ _ d a _ (rw (c .before .before .before .records-in .ensures) at (c .before .before .write .ensures))))))

@@ -13,11 +13,11 @@ use Rattle.format.specs.Indices.{some}
 use Rattle.format.specs.Pixel.{pixel}
 use Rattle.format.specs.Picture.{Picture}
 use Rattle.format.specs.ColorTable.{perPixel, range, indexOf, hasEntry, indexAt, digits}
-use Rattle.format.specs.Made.{columns}
+use Rattle.format.specs.Made.{columns, made}
 use Rattle.color_table.proofs.Digits.{base-of, digits-same, small-more, weight-small}
-use Rattle.item.specs.declared.Made.{Made}
-use Rattle.item.specs.declared.Made.the-variants.{Item, Missing}
-use Rattle.item.specs.Made.{made, whenMade}
+use Rattle.format.specs.declared.Made.{Made}
+use Rattle.format.specs.declared.Made.the-variants.{Item, Missing}
+use Rattle.item.specs.Made.{whenMade}
 use Rattle.item.specs.Table.{recordFrom, joinedMade, Room}
 use Rattle.item.proofs.WhenMade.{made-item}
 
@@ -137,7 +137,7 @@ module _ (w size : ℕ) (e f : Picture) (y : ℕ) where
               rw (byte-more n x, index-here x l, pow-succ' u n) (small-more (u ^ n) (indexOf size e (f (y * w + x))) u (byte n (x + 1)) (omega arith) r)
           go (no l) ih = rw (byte-past (suc n) x (omega arith)) (one-le-pow (suc n) u pos)
 
-      pub columns-room : size ≤ 256 → (n x : ℕ) → n < perPixel size → Room u (made (some t (columns w y n x)) (recordFrom w size e f y n x))
+      pub columns-room : size ≤ 256 → (n x : ℕ) → n < perPixel size → Room size (made (some t (columns w y n x)) (recordFrom w size e f y n x))
       unfolding recordFrom
       columns-room small n x l p q =
           let b = base-of size (perPixel size) u small refl refl in

@@ -12,10 +12,10 @@ use Rattle.format.specs.Indices.{some, among}
 use Rattle.format.specs.Pixel.{black, clear, each}
 use Rattle.format.specs.Picture.{Picture}
 use Rattle.format.specs.Predictor.{predict, predicted, index, left, top, topRight, topLeft, mode}
-use Rattle.format.specs.Made.{modeNames, namedBy, named}
+use Rattle.format.specs.Made.{modeNames, namedBy, named, made}
 use Rattle.format.proofs.Choice.{every-at}
-use Rattle.item.specs.declared.Made.{Made}
-use Rattle.item.specs.Made.{made, asked, residualMade}
+use Rattle.format.specs.declared.Made.{Made}
+use Rattle.item.specs.Made.{asked, residualMade}
 use Rattle.item.specs.Neighbors.{namesNeighbor, bitOf, Masks, neighborAt, modeAt}
 use Rattle.item.proofs.WhenMade.{asked-made, residual-made}
 

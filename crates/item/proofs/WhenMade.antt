@@ -8,9 +8,10 @@ use Rattle.format.specs.Choice.{if_then_else_}
 use Rattle.format.specs.Byte.{sub}
 use Rattle.format.specs.Pixel.{clear, each}
 use Rattle.format.specs.Predictor.{predict}
-use Rattle.item.specs.declared.Made.{Made}
-use Rattle.item.specs.declared.Made.the-variants.{Item, Missing}
-use Rattle.item.specs.Made.{made, asked, whenMade, mapped, residualMade}
+use Rattle.format.specs.declared.Made.{Made}
+use Rattle.format.specs.declared.Made.the-variants.{Item, Missing}
+use Rattle.format.specs.Made.{made}
+use Rattle.item.specs.Made.{asked, whenMade, mapped, residualMade}
 
 -- what a caller learns of an answer
 

@@ -2,16 +2,11 @@
 use mathlib.Core.Bool.{Bool, true, false}
 use Prim.Native.Nat.{ℕ}
 use Rattle.format.specs.declared.Pixel.{Pixel}
+use Rattle.format.specs.declared.Made.{Made}
+use Rattle.format.specs.declared.Made.the-variants.{Item, Missing}
 use Rattle.format.specs.Byte.{sub}
 use Rattle.format.specs.Pixel.{clear, each}
 use Rattle.format.specs.Predictor.{predict}
-use Rattle.item.specs.declared.Made.{Made}
-use Rattle.item.specs.declared.Made.the-variants.{Item, Missing}
-
--- the item v, unless it is missing
-unfoldable pub made : Bool → Pixel → Made
-made true v = Missing
-made false v = Item v
 
 -- an item that was asked for; else any
 unfoldable pub asked : Bool → Made → Made
@@ -29,4 +24,6 @@ mapped h m = whenMade m (λ v. Item (h v))
 -- the residual of an item by its neighbors
 unfoldable pub residualMade : ℕ → Made → Made → Made → Made → Made → Made
 residualMade mode v l t tr tl =
-    whenMade v (λ v. whenMade l (λ l. whenMade t (λ t. whenMade tr (λ tr. whenMade tl (λ tl. Item (each sub v (predict mode l t tr tl)))))))
+    whenMade v
+    (λ v.
+    whenMade l (λ l. whenMade t (λ t. whenMade tr (λ tr. whenMade tl (λ tl. Item (each sub v (predict mode l t tr tl)))))))

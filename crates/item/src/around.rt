@@ -10,7 +10,8 @@ fn before(x: usize) -> usize
     if x == 0 { 0 } else { x - 1 }
 }
 
-// The index of neighbor n, of L, T, TR and TL, of column x of row y. A neighbor outside has an index too, which is that of an item inside.
+// The index of neighbor n, of L, T, TR and TL, of column x of row y. A neighbor outside has an index too,
+// which is that of an item inside.
 pub fn neighbor_index(n: usize, x: usize, y: usize, w: usize) -> usize
     requires { ⌜ (n < 4) × (x < w) × (w ≤ 16384) × (y < 16384) ⌝ }
     ensures { λ r. ⌜ r ≡ neighborAt w x y n ⌝ }

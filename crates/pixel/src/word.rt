@@ -39,6 +39,12 @@ pub fn split(w: u32) -> Pixel
     }
 }
 
+pub fn word_of(v: Pixel) -> u32
+    ensures { λ w. ⌜ unword w ≡ v ⌝ }
+{
+    join(wide(v.red), wide(v.green), wide(v.blue), wide(v.alpha))
+}
+
 // Pixel i of the bytes xs.
 pub fn word_at(xs: &[u8], i: usize) -> u32
     requires { ⌜ 4 * i + 4 ≤ length (now xs) ⌝ }
@@ -76,9 +82,5 @@ pub fn write_pixel(xs: &mut [u8], i: usize, v: Pixel)
     requires { ⌜ 4 * i + 4 ≤ length (now xs) ⌝ }
     ensures { λ _. ⌜ now (xs .exit) ≡ putPixel (now (xs .entry)) i v ⌝ }
 {
-    put_word(
-        xs,
-        i,
-        join(wide(v.red), wide(v.green), wide(v.blue), wide(v.alpha)),
-    );
+    put_word(xs, i, word_of(v));
 }

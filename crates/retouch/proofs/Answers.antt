@@ -1,23 +1,25 @@
 -- The number and the bytes of `retouch` at each of its returns.
-use mathlib.Core.List.{List}
+use mathlib.Core.Bool.{true, false, _&&_}
+use mathlib.Core.List.{List, [], _∷_}
 use mathlib.Core.Path.{_≡_, refl, sym, ap, _∙_}
 use Prim.Native.Nat.{ℕ, _+_, _*_, _<_, _≤_}
 use native.Mathlib.Omega.{arith}
-use borrow.Author.Tests.{le-leb, lt-leb, lt-ltb, le-ltb}
-use lib.ListN.{length}
+use borrow.Author.Tests.{lt-ltb, le-ltb}
 use Rattle.format.specs.declared.Pixel.{Pixel}
 use Rattle.format.specs.Picture.{Picture, pixels}
-use Rattle.format.specs.Chain.{widthAt, stepAt, count}
-use Rattle.format.specs.Refusals.{chainRefusal}
+use Rattle.format.specs.Chain.{stepAt, count}
 use Rattle.format.specs.Retouch.{pointAnswer}
-use Rattle.format.specs.Calls.{records, painted, retouchAnswer, retouchPicture, retouchStrip}
+use Rattle.format.specs.Calls.{records, inside, painted, pairRefusal, retouchAnswer, retouchPicture, retouchStrip}
 use Rattle.format.proofs.Valid.{before-some}
-use Rattle.format.proofs.Calls.{chainRefusal-most}
+use Rattle.format.proofs.Calls.{not-accepted, pairRefusal-most, retouch-refused}
 use Rattle.format.proofs.Steps.{newStrip-steps, pointAnswer-steps}
+use Rattle.pixel.proofs.Blocks.{row-there}
 use Rattle.chain.specs.declared.Chain.{Chain}
-use Rattle.chain.specs.Reading.{ChainOf}
-use Rattle.chain.specs.Ready.{stepsIn}
-use Rattle.retouch.specs.Decided.{Retouched}
+use Rattle.chain.specs.Valid.{stepsOf, pixelsIn, recordsIn}
+use Rattle.chain.specs.Reading.{ChainOf, Opened}
+use Rattle.chain.proofs.Valid.{pixels-few}
+use Rattle.item.specs.declared.Point.{Point}
+use Rattle.retouch.specs.Decided.{answerBy, pictureLeft, stripLeft}
 
 module _ (w h : ℕ) (cs ds picture strip : List ℕ) (x y : ℕ) (v : Pixel) where
   abbrev answer : ℕ
@@ -26,63 +28,68 @@ module _ (w h : ℕ) (cs ds picture strip : List ℕ) (x y : ℕ) (v : Pixel) wh
   abbrev Answered : ℕ → List ℕ → List ℕ → Type 0
   Answered r ps ss = (r ≡ answer) × ((ps ≡ retouchPicture w h cs ds picture strip x y v) × (ss ≡ retouchStrip w h cs ds picture strip x y v))
 
-  refused : (r : ℕ) → r ≡ answer → r < 256 → Answered r picture strip
-  unfolding retouchPicture retouchStrip
-  refused r e l = let s = lt-leb 256 answer (rw (← e) l) in (e, (rw s refl, rw s refl))
+  abbrev at : ℕ → Point
+  at i = record { index = i; color = v }
 
-  -- refusals 1 to 7
-  pub refused-chain : (r : ℕ) → r ≡ chainRefusal w h cs (length ds) → (r ≡ 0 → ⊥) → Answered r picture strip
-  unfolding retouchAnswer
-  refused-chain r e d =
-      let m = chainRefusal-most w h cs (length ds) in
-      refused r (e ∙ sym (before-some (chainRefusal w h cs (length ds)) _ (λ z. d (e ∙ z)))) (omega arith)
+  abbrev new : Picture
+  new = painted w (pixels picture) x y v
 
-  module _ (valid : chainRefusal w h cs (length ds) ≡ 0) where
-    -- 8
-    pub refused-picture : length picture < 4 * (h * w) → Answered 8 picture strip
+  refused : (r : ℕ) → r ≡ answer → (r ≡ 0 → ⊥) → r < 256 → Answered r picture strip
+  refused r e d l =
+      let s = retouch-refused w h cs ds picture strip x y v (not-accepted answer (λ z. d (e ∙ z)) (omega arith)) in
+      (e, (sym (s .0), sym (s .1)))
+
+  module _ (c : Chain) (opened : Opened w h cs ds picture strip c) where
+    -- refusals 1 to 8
+    pub refused-pair : (c .refusal ≡ 0 → ⊥) → Answered (c .refusal) picture strip
     unfolding retouchAnswer
-    refused-picture l = refused 8 (sym (rw (valid, lt-leb (4 * (h * w)) (length picture) l) refl)) (omega arith)
+    refused-pair d =
+        let m = pairRefusal-most w h cs ds picture strip in
+        let e = opened .refusal in
+        refused (c .refusal) (e ∙ sym (before-some (pairRefusal w h cs ds picture strip) _ (λ z. d (e ∙ z)))) d (omega arith)
 
-    module _ (room : 4 * (h * w) ≤ length picture) (c : Chain) (of : ChainOf w cs c) where
-      pub refused-strip : length strip < 4 * (h * c .width) → Answered 8 picture strip
+    module _ (none : c .refusal ≡ 0) where
+      valid : pairRefusal w h cs ds picture strip ≡ 0
+      valid = sym (opened .refusal) ∙ none
+
+      -- 9
+      outside : inside w h x y ≡ false → Answered 9 picture strip
       unfolding retouchAnswer
-      refused-strip l =
-          let s = lt-leb (4 * (h * widthAt cs w (count cs))) (length strip) (let e = of .width in rw (← e) l) in
-          refused 8 (sym (rw (valid, le-leb (4 * (h * w)) (length picture) room, s) refl)) (omega arith)
+      outside e = refused 9 (sym (rw (valid, e) refl)) (λ z. omega arith) (omega arith)
 
-      module _ (fits : 4 * (h * c .width) ≤ length strip) where
-        long : 4 * records w h cs ≤ length strip
-        long = let e = of .width in rw (← e) fits
+      pub refused-column : w ≤ x → Answered 9 picture strip
+      refused-column l = outside (rw (le-ltb x w l) refl)
 
-        -- 9
-        pub refused-column : w ≤ x → Answered 9 picture strip
+      pub refused-row : x < w → h ≤ y → Answered 9 picture strip
+      refused-row l m = outside (rw (lt-ltb x w l, le-ltb y h m) refl)
+
+      -- 22, or the point and its records
+      module _ (column : x < w) (row : y < h) where
+        of : ChainOf w h cs c
+        of = opened .of none
+
+        area : pixelsIn c ≡ h * w
+        area = rw (of .height, of .width) refl
+
+        -- the point's index
+        pub index-inside : y * c .width .0 + x < pixelsIn c
+        index-inside = rw (area, of .width) (omega (arith, row-there w h y row))
+
+        pub index-small : y * c .width .0 + x < 16384 * 16384
+        index-small = let i = index-inside in let m = pixels-few c ds (opened .valid none) in omega arith
+
+        wide : recordsIn c ≡ records w h cs
+        wide = rw (of .height, of .strip) refl
+
+        here : answer ≡ pointAnswer (stepAt cs w) ds (count cs) (records w h cs) new (y * w + x) (pixels strip)
         unfolding retouchAnswer
-        refused-column l =
-            refused 9 (sym (rw (valid, le-leb (4 * (h * w)) (length picture) room, le-leb (4 * records w h cs) (length strip) long, le-ltb x w l) refl)) (omega arith)
+        here = rw (valid, lt-ltb x w column, lt-ltb y h row) refl
 
-        module _ (column : x < w) where
-          pub refused-row : h ≤ y → Answered 9 picture strip
-          unfolding retouchAnswer
-          refused-row l =
-              refused 9
-              (sym (rw (valid, le-leb (4 * (h * w)) (length picture) room, le-leb (4 * records w h cs) (length strip) long, lt-ltb x w column, le-ltb y h l) refl))
-              (omega arith)
-
-          -- 22, or the point and its records
-          module _ (row : y < h) where
-            abbrev new : Picture
-            new = painted w (pixels picture) x y v
-
-            inside : answer ≡ pointAnswer (stepAt cs w) ds (count cs) (records w h cs) new (y * w + x) (pixels strip)
-            unfolding retouchAnswer
-            inside = rw (valid, le-leb (4 * (h * w)) (length picture) room, le-leb (4 * records w h cs) (length strip) long, lt-ltb x w column, lt-ltb y h row) refl
-
-            wide : h * c .width ≡ records w h cs
-            wide = ap (λ (k : ℕ). h * k) (of .width)
-
-            pub answered : (r : ℕ) (ps ss : List ℕ) → Retouched (stepsIn (c .steps)) ds (c .count) (h * c .width) new (y * w + x) strip (h * w) picture r ps ss → Answered r ps ss
-            unfolding retouchPicture retouchStrip
-            answered r ps ss s =
-                let a = rw (wide, of .count, pointAnswer-steps (stepsIn (c .steps)) (stepAt cs w) h ds new (records w h cs) (y * w + x) (pixels strip) (count cs) (of .steps .at)) at (s .answer) in
-                let e : r ≡ answer = a ∙ sym inside in
-                (e, (s .painted ∙ rw e refl, s .rewritten ∙ rw (e, wide, of .count, newStrip-steps (stepsIn (c .steps)) (stepAt cs w) h ds new (records w h cs) (y * w + x) (pixels strip) (count cs) (of .steps .at)) refl))
+        pub answered : (i : ℕ) → i ≡ y * c .width .0 + x → (r : ℕ) (ps ss : List ℕ) → r ≡ answerBy c ds picture strip (at i)
+            → ps ≡ pictureLeft c picture (at i) r → ss ≡ stripLeft c ds picture strip (at i) r → Answered r ps ss
+        unfolding retouchPicture retouchStrip
+        answered i j r ps ss a p s =
+            let k : i ≡ y * w + x = j ∙ rw (of .width) refl in
+            let q = rw (k, wide, of .count, pointAnswer-steps (stepsOf c) (stepAt cs w) h ds new (pixels strip) (count cs) (of .steps .at) (records w h cs) (y * w + x)) at a in
+            let e : r ≡ answer = q ∙ sym here in
+            (e, (p ∙ rw (k, e, area) refl, s ∙ rw (k, e, wide, of .count, newStrip-steps (stepsOf c) (stepAt cs w) h ds new (pixels strip) (count cs) (of .steps .at) ((y * w + x) ∷ [])) refl))

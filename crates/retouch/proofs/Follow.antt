@@ -14,20 +14,22 @@ use Rattle.format.specs.Retouch.{fiveSpots, placeOf, spotsOf, spotRecords}
 use Rattle.format.proofs.ByKind.{narrowed-table}
 use Rattle.format.proofs.Stages.{narrowed-fewer}
 use Rattle.format.proofs.Locality.{spots-place}
-use Rattle.chain.specs.Ready.{Ready}
-use Rattle.chain.proofs.Ready.{step-sized}
-use Rattle.retouch.specs.Spots.{Followed}
+use Rattle.chain.specs.declared.Chain.{Chain}
+use Rattle.chain.specs.Valid.{Valid}
+use Rattle.chain.proofs.Valid.{step-sized}
+use Rattle.retouch.specs.Spots.{Followed, placesOf}
 
--- packed columns p of w: a packed pixel's number is no larger than those of the items that it holds
-module _ (w p q : ℕ) (l : p ≤ w) where
-  pub rows-less : q / w * p ≤ q
-  rows-less = omega (arith, mul-le-mul-left {m = p} {n = w} (q / w) l, div-add-mod' q w)
+-- a packed pixel's number is no larger than those of the items that it holds: column x of row y of w columns, p packed
+pub packed-less : (w p q x y n : ℕ) → p ≤ w → x ≡ q % w → y ≡ q / w → y * p + x / n ≤ q
+packed-less w p q x y n l a b =
+    rw (a, b) (omega (arith, mul-le-mul-left {m = p} {n = w} (q / w) l, div-add-mod' q w, div-le-self (q % w) n))
 
-  pub packed-less : (n : ℕ) → q / w * p + q % w / n ≤ q
-  packed-less n = omega (arith, mul-le-mul-left {m = p} {n = w} (q / w) l, div-add-mod' q w, div-le-self (q % w) n)
-
-pub packed-fewer : (s : Step) (p : ℕ) → s .kind ≡ 3 → p ≡ packedWidth (s .size) (s .width) → p ≤ s .width
-packed-fewer s p e q = rw (q, ← narrowed-table s e) (narrowed-fewer s)
+-- packed columns are no more than the columns
+pub packed-fewer : (w size p : ℕ) → p ≡ packedWidth size w → p ≤ w
+packed-fewer w size p q = rw (q, ← narrowed-table table refl) (narrowed-fewer table)
+  where
+    table : Step
+    table = record { kind = 3; bits = 0; size = size; offset = 0; length = 0; zero = 0; width = w }
 
 -- five records as they stand in an array
 five : (xs : List ℕ) → length xs ≡ 5 → xs ≡ getD xs 0 0 ∷ getD xs 1 0 ∷ getD xs 2 0 ∷ getD xs 3 0 ∷ getD xs 4 0 ∷ []
@@ -53,7 +55,7 @@ union-moved h g e (suc n) [] = refl
 union-moved h g e (suc n) (q ∷ xs) = cc (e q, union-moved h g e n xs)
 
 pub follow-placed : (s : Step) (xs ys : List ℕ) (n : ℕ) → (s .kind ≡ 0 → ⊥) → length xs ≡ 5
-    → ys ≡ placeOf s (getD xs 0 0) ∷ placeOf s (getD xs 1 0) ∷ placeOf s (getD xs 2 0) ∷ placeOf s (getD xs 3 0) ∷ placeOf s (getD xs 4 0) ∷ []
+    → ys ≡ placesOf s xs
     → take n ys ≡ union (spotsOf s) (take n xs)
 follow-placed s xs ys n d l e =
     let p : moved (placeOf s) xs ≡ ys = ap (moved (placeOf s)) (five xs l) ∙ sym e in
@@ -71,29 +73,29 @@ length-union h [] e = refl
 length-union h (q ∷ xs) e = length-append (h q) (union h xs) ∙ omega (arith, e q, length-union h xs e)
 
 -- before a predictor there is one
-one-spot : (steps : ℕ → Step) (p k : ℕ) → ((j : ℕ) → j < k → steps j .kind ≡ 0 → ⊥) → length (spotRecords steps k p) ≡ 1
+one-spot : (steps : ℕ → Step) (p k : ℕ) → ((j : ℕ) → j < k → steps j .kind ≡ 0 → ⊥) → length (spotRecords steps k (p ∷ [])) ≡ 1
 unfolding spotRecords
 one-spot steps p zero n = refl
 one-spot steps p (suc k) n =
-    length-union (spotsOf (steps k)) (spotRecords steps k p) (λ q. ap length (spots-place (steps k) q (n k (omega arith))))
+    length-union (spotsOf (steps k)) (spotRecords steps k (p ∷ [])) (λ q. ap length (spots-place (steps k) q (n k (omega arith))))
     ∙ one-spot steps p k (λ j l. n j (omega arith))
 
-pub first-spot : (steps : ℕ → Step) (p : ℕ) → p ∷ [] ≡ spotRecords steps 0 p
+pub first-spot : (steps : ℕ → Step) (p : ℕ) → p ∷ [] ≡ spotRecords steps 0 (p ∷ [])
 unfolding spotRecords
 first-spot steps p = refl
 
-pub spots-more : (steps : ℕ → Step) (p k : ℕ) (rs ts : List ℕ) → rs ≡ spotRecords steps k p → ts ≡ union (spotsOf (steps k)) rs → ts ≡ spotRecords steps (k + 1) p
+pub spots-more : (steps : ℕ → Step) (p k : ℕ) (rs ts : List ℕ) → rs ≡ spotRecords steps k (p ∷ []) → ts ≡ union (spotsOf (steps k)) rs → ts ≡ spotRecords steps (k + 1) (p ∷ [])
 unfolding spotRecords
 spots-more steps p k rs ts e q = rw (add-one k, ← e) q
 
-pub one-taken : (steps : ℕ → Step) (p k n : ℕ) (xs : List ℕ) → ((j : ℕ) → j < k → steps j .kind ≡ 0 → ⊥) → take n xs ≡ spotRecords steps k p → n ≤ length xs → n ≡ 1
+pub one-taken : (steps : ℕ → Step) (p k n : ℕ) (xs : List ℕ) → ((j : ℕ) → j < k → steps j .kind ≡ 0 → ⊥) → take n xs ≡ spotRecords steps k (p ∷ []) → n ≤ length xs → n ≡ 1
 one-taken steps p k n xs none e l = sym (length-take-le n xs l) ∙ ap length e ∙ one-spot steps p k none
 
--- the records of a valid chain are followed
-pub ready-followed : (steps : ℕ → Step) (count w h n : ℕ) → Ready steps count w h n → Followed steps count
-ready-followed steps count w h n ready = record {
-  few = ready .few;
-  wide = λ k l. step-sized steps count w h n ready k l .wide;
-  narrow = λ k l. step-sized steps count w h n ready k l .narrow;
-  once = λ j k i l a b. ready .once j k i l (a ∙ sym b);
+-- a valid chain is followed
+pub valid-followed : (c : Chain) (ds : List ℕ) → Valid c ds → Followed c
+valid-followed c ds v = record {
+  few = v .few;
+  wide = λ k l. step-sized c ds v k l .wide;
+  narrow = λ k l. step-sized c ds v k l .narrow;
+  once = λ j k i l a b. v .once j k i l (a ∙ sym b);
 }

@@ -1,5 +1,5 @@
 -- Laws of the records made afresh, spot by spot.
-use mathlib.Core.Bool.{true, false, _&&_}
+use mathlib.Core.Bool.{Bool, true, false, _&&_}
 use mathlib.Core.List.{List}
 use mathlib.Core.Path.{_≡_, refl, sym, _∙_}
 use Prim.Native.Nat.{ℕ, _+_, _<_, _≤_}
@@ -13,31 +13,62 @@ use lib.ListN.{length, getD, set, take, drop}
 use lib.Seq.{getD-set-other, getD-set-same}
 use Rattle.format.specs.Choice.{if_then_else_}
 use Rattle.format.specs.declared.Pixel.{Pixel}
-use Rattle.format.specs.declared.Step.{Step}
+use Rattle.format.specs.declared.Made.{Made}
+use Rattle.format.specs.declared.Made.the-variants.{Missing}
 use Rattle.format.specs.Pixel.{clear}
 use Rattle.format.specs.Picture.{Picture}
-use Rattle.format.specs.Made.{missing}
+use Rattle.format.specs.Made.{missing, madeNumber}
 use Rattle.format.specs.Retouch.{unmade}
-use Rattle.item.specs.Made.{made}
-use Rattle.retouch.specs.Remade.{MadeTo}
+use Rattle.chain.specs.declared.Chain.{Chain}
+use Rattle.chain.specs.Valid.{Valid, stepsOf, recordsIn, storedBy}
+use Rattle.item.specs.Source.{itemsAfter}
+use Rattle.item.proofs.WhenMade.{made-missing}
+use Rattle.retouch.specs.declared.spots.Spots.{Spots}
+use Rattle.retouch.specs.declared.remake.Remade.{Remade}
+use Rattle.retouch.specs.Spots.{Sound}
+use Rattle.retouch.specs.Remade.{MadeTo, madeInside, cannot, RemadeBy}
 use Rattle.retouch.proofs.Listed.{listed-at, listed-none}
 
--- the first k spots can be made: whether one of m cannot is left to the others
-abbrev pub Passed : (ℕ → Step) → List ℕ → ℕ → ℕ → Picture → List ℕ → ℕ → ℕ → Type 0
-Passed steps ds c n f xs m k = unmade steps ds c n f (take m xs) ≡ unmade steps ds c n f (drop k (take m xs))
+-- a record of the strip is an item after the last record
+pub record-inside : (c : Chain) (ds : List ℕ) → Valid c ds → (n r : ℕ) → n ≡ recordsIn c → r < n → r < itemsAfter c (c .count)
+record-inside c ds v n r e l = rw (← v .strip, ← e) l
 
-module _ (steps : ℕ → Step) (ds : List ℕ) (c n : ℕ) (f : Picture) (xs : List ℕ) (m : ℕ) (l : m ≤ length xs) where
-  pub passed-more : (k : ℕ) → Passed steps ds c n f xs m k → k < m → (ltb (getD xs k 0) n && missing steps ds c f (getD xs k 0)) ≡ false → Passed steps ds c n f xs m (k + 1)
-  unfolding unmade
-  passed-more k p u e = rw (add-one k) (p ∙ rw (listed-at xs m l k u, e) refl)
+module _ (c : Chain) (ds : List ℕ) (f : Picture) where
+  -- the first k spots can be made: whether one of m cannot is left to the others
+  abbrev pub Passed : List ℕ → ℕ → ℕ → Type 0
+  Passed xs m k = cannot c ds f (take m xs) ≡ cannot c ds f (drop k (take m xs))
 
-  pub missed : (k : ℕ) → Passed steps ds c n f xs m k → k < m → (ltb (getD xs k 0) n && missing steps ds c f (getD xs k 0)) ≡ true → true ≡ unmade steps ds c n f (take m xs)
-  unfolding unmade
-  missed k p u e = sym (p ∙ rw (listed-at xs m l k u, e) refl)
+  -- record r cannot be made
+  abbrev lost : ℕ → Bool
+  lost r = ltb r (recordsIn c) && missing (stepsOf c) ds (c .count) f r
 
-  pub passed-all : (k : ℕ) → Passed steps ds c n f xs m k → k ≤ m → m ≤ k → false ≡ unmade steps ds c n f (take m xs)
+  pub passed-more : (xs : List ℕ) (m k : ℕ) → m ≤ length xs → Passed xs m k → k < m → lost (getD xs k 0) ≡ false → Passed xs m (k + 1)
   unfolding unmade
-  passed-all k p u v = let e : k ≡ m = omega arith in sym (p ∙ rw (e, listed-none xs m l) refl)
+  passed-more xs m k l p u e = rw (add-one k) (p ∙ rw (listed-at xs m l k u, e) refl)
+
+  missed : (xs : List ℕ) (m k : ℕ) → m ≤ length xs → Passed xs m k → k < m → lost (getD xs k 0) ≡ true → cannot c ds f (take m xs) ≡ true
+  unfolding unmade
+  missed xs m k l p u e = p ∙ rw (listed-at xs m l k u, e) refl
+
+  passed-all : (xs : List ℕ) (m k : ℕ) → m ≤ length xs → Passed xs m k → k ≤ m → m ≤ k → cannot c ds f (take m xs) ≡ false
+  unfolding unmade
+  passed-all xs m k l p u v = let e : k ≡ m = omega arith in p ∙ rw (e, listed-none xs m l) refl
+
+  module _ (s : Spots) (sound : Sound s) (k : ℕ) (passed : Passed (s .records) (s .count) k) (r : Remade) where
+    fits : s .count ≤ length (s .records)
+    fits = let p = sound .places in let m = sound .most in omega arith
+
+    -- spot k has a record that cannot be made
+    pub remade-refused : (m : Made) → k < s .count → m ≡ madeInside c ds f (getD (s .records) k 0) → m ≡ Missing → r .refusal ≡ madeNumber m → RemadeBy c ds f s r
+    remade-refused m u e z q =
+        let t = missed (s .records) (s .count) k fits passed u (made-missing _ _ (sym z ∙ e)) in
+        let n : r .refusal ≡ 22 = q ∙ rw z in
+        record { refusal = n ∙ rw t; records = λ a. absurd (omega arith) }
+
+    -- all were made
+    pub remade-all : k ≤ s .count → s .count ≤ k → MadeTo k (storedBy c ds (c .count) f) (recordsIn c) (s .records) (r .records) → r .refusal ≡ 0 → RemadeBy c ds f s r
+    remade-all u v to z =
+        record { refusal = z ∙ rw (passed-all (s .records) (s .count) k fits passed u v); records = λ a. record { at = λ j i l. to .at j (omega arith) l } }
 
 -- the records made so far
 
@@ -52,6 +83,3 @@ module _ (g : Picture) (n : ℕ) (rs : List ℕ) where
       go : (j : ℕ) → j < k + 1 → getD rs j 0 < n → Dec (j ≡ k) → getD (set vs k v) j clear ≡ g (getD rs j 0)
       go j u i (yes p) = rw p (getD-set-same vs k v clear l ∙ e ∙ rw (lt-ltb (getD rs k 0) n (rw p at i)) refl)
       go j u i (no d) = getD-set-other vs k j v clear d ∙ made .at j (omega arith) i
-
-  pub to-all : (k m : ℕ) (vs : List Pixel) → MadeTo k g n rs vs → m ≤ k → MadeTo m g n rs vs
-  to-all k m vs made l = record { at = λ j u i. made .at j (omega arith) i }

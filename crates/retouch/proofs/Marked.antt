@@ -1,12 +1,11 @@
--- Laws of the mask: its bits from the last spot to the first, and the ones in it.
+-- Laws of the mask: its bits from the last spot to the first.
 use mathlib.Core.Bool.{Bool, true, false, not, _&&_, _||_}
 use mathlib.Core.List.{List, [], _∷_}
 use mathlib.Core.Path.{_≡_, refl, sym, ap, _∙_}
-use Prim.Native.Nat.{ℕ, suc, _+_, _-_, _*_, _/_, _%_, _^_, _<_, _≤_}
+use Prim.Native.Nat.{ℕ, suc, _+_, _-_, _*_, _^_, _<_, _≤_}
 use native.Mathlib.Nat.{pow-suc}
 use native.Mathlib.Omega.{arith}
 use lib.Pow.{pow-mono}
-use lib.Count as Count
 use borrow.Author.Tests.{ltb-true, eq-eqb, ne-eqb}
 use lib.Dec.{eqb, ltb}
 use lib.ListN.{length, getD, take, drop}
@@ -15,7 +14,7 @@ use Rattle.format.specs.Indices.{among}
 use Rattle.format.specs.declared.Pixel.{Pixel}
 use Rattle.format.specs.Pixel.{clear, equal}
 use Rattle.format.specs.Picture.{Picture}
-use Rattle.format.specs.Retouch.{differ, marks, maskOf, ones}
+use Rattle.format.specs.Retouch.{differ, marks, maskOf}
 use Rattle.retouch.specs.Remade.{MadeTo, seenBefore, marked}
 use Rattle.retouch.proofs.Listed.{listed-before, listed-none}
 
@@ -37,13 +36,6 @@ module _ (xs : List ℕ) (r k : ℕ) where
   seen-none l = let e : k ≡ 0 = omega arith in rw e refl
 
 -- the mask of the spots from place k on, where vs has the records of the strip g
-
-abbrev bit : Bool → ℕ
-bit b = if b then 1 else 0
-
-bit-small : (b : Bool) → bit b ≤ 1
-bit-small true = omega arith
-bit-small false = omega arith
 
 made-differ : (n r : ℕ) (f g : Picture) (v : Pixel) → (r < n → v ≡ g r) → (ltb r n && not (equal (f r) v)) ≡ differ n f g r
 made-differ n r f g v e = go (ltb r n) refl
@@ -84,15 +76,3 @@ mask-grows m k mask b l c p u =
 
 pub mask-small : (m k mask : ℕ) → mask < 2 ^ (m - k) → m ≤ 5 → mask < 32
 mask-small m k mask l u = let s : 2 ^ (m - k) ≤ 2 ^ 5 = pow-mono {j = 5} (omega arith) in omega arith
-
--- the language's count of ones
-
-pub ones-maskOf : (bs : List Bool) → Count.ones (maskOf bs) ≡ ones bs
-ones-maskOf [] = unfold Count.ones Count.onesIn in refl
-ones-maskOf (b ∷ bs) = Count.ones-step (maskOf (b ∷ bs)) ∙ rw (low, high) (ap (λ (n : ℕ). bit b + n) (ones-maskOf bs))
-  where
-    low : (bit b + 2 * maskOf bs) % 2 ≡ bit b
-    low = omega (arith, bit-small b)
-
-    high : (bit b + 2 * maskOf bs) / 2 ≡ maskOf bs
-    high = omega (arith, bit-small b)

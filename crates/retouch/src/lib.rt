@@ -4,4 +4,4 @@ mod mask;
 mod remake;
 pub mod retouch;
 mod spots;
-mod write;
+mod strip;

@@ -1,9 +1,10 @@
 // The mask of the records that change: bit k is that of spot k.
 use crate::spots::Spots;
+use color_table::find::same;
 use format::Pixel;
-use pixel::pixel::pixel_at;
+use pixel::word::word_at;
+use pixel::word::word_of;
 ghost use mathlib.Core.Bool.{not, _&&_};
-ghost use mathlib.Core.List.{[]};
 ghost use mathlib.Core.Path.{_≡_};
 ghost use Prim.Native.Nat.{_*_, _<_, _≤_};
 ghost use lib.Dec.{ltb};
@@ -11,25 +12,9 @@ ghost use lib.ListN.{length, getD};
 ghost use Rattle.format.specs.Choice.{if_then_else_};
 ghost use Rattle.format.specs.Indices.{among};
 ghost use Rattle.format.specs.Pixel.{equal};
-ghost use Rattle.format.specs.Picture.{Picture, pixels};
-ghost use Rattle.format.specs.Retouch.{differ, marks, maskOf};
-ghost use Rattle.retouch.specs.Spots.{Sound, recordsOf};
-ghost use Rattle.retouch.specs.Remade.{MadeTo, seenBefore, marked};
-
-fn same(u: Pixel, v: Pixel) -> bool
-    ensures { λ r. ⌜ r ≡ equal u v ⌝ }
-{
-    if u.red != v.red {
-        return false;
-    }
-    if u.green != v.green {
-        return false;
-    }
-    if u.blue != v.blue {
-        return false;
-    }
-    u.alpha == v.alpha
-}
+ghost use Rattle.format.specs.Picture.{pixels};
+ghost use Rattle.retouch.specs.Spots.{Sound};
+ghost use Rattle.retouch.specs.Remade.{MasksMade, seenBefore, marked};
 
 // Whether record r is one of the strip's first n, and is not v.
 fn differs(strip: &[u8], n: usize, r: usize, v: Pixel) -> bool
@@ -39,7 +24,7 @@ fn differs(strip: &[u8], n: usize, r: usize, v: Pixel) -> bool
     if n <= r {
         return false;
     }
-    !same(pixel_at(strip, r), v)
+    !same(word_at(strip, r), word_of(v))
 }
 
 // Whether an earlier spot has the record of spot k.
@@ -69,11 +54,11 @@ fn mark(strip: &[u8], n: usize, records: [usize; 5], k: usize, v: Pixel) -> u32
     if seen(records, k) { 0 } else { 1 }
 }
 
-// The mask, where `made` has the records of the strip to come. The last spot is taken first, so that its bit is moved up by the others.
+// The mask, where `made` has the records of the strip to come. The last spot is taken first, so that its bit is
+// moved up by the others.
 pub fn mask_of(strip: &[u8], n: usize, spots: Spots, made: [Pixel; 5]) -> u32
     requires { ⌜ (4 * n ≤ length (now strip)) × Sound spots ⌝ }
-    ensures { λ m. ⌜ ((g : Picture) → MadeTo (spots .count) g n (spots .records) made → m ≡ maskOf (marks (differ n (pixels (now (strip .entry))) g) [] (recordsOf spots))) ⌝ }
-    ensures { λ m. ⌜ m < 32 ⌝ }
+    ensures { λ m. ⌜ MasksMade n spots made (pixels (now (strip .entry))) m × (m < 32) ⌝ }
 {
     let records = spots.records;
     let mut mask = 0;

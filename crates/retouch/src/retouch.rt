@@ -1,55 +1,39 @@
 // One point of a picture retouched, with the strip kept as the picture stored.
 use crate::decide::decide;
-use crate::write::write;
+use crate::strip::records_in;
+use crate::strip::write;
 use chain::Chain;
-use chain::read_chain;
+use chain::open;
 use format::Pixel;
+use item::Point;
+use item::place::expanded_index;
 use pixel::pixel::put_pixel;
 ghost use mathlib.Core.Path.{_≡_};
-ghost use Prim.Native.Nat.{_*_, _<_, _≤_};
-ghost use lib.ListN.{length};
-ghost use Rattle.format.specs.Picture.{pixels, paint};
-ghost use Rattle.format.specs.Sizes.{Holds};
 ghost use Rattle.format.specs.Calls.{retouchAnswer, retouchPicture, retouchStrip};
-ghost use Rattle.chain.specs.Ready.{Ready, stepsIn, widthAfter};
-ghost use Rattle.retouch.specs.Decided.{Retouched};
+ghost use Rattle.retouch.specs.Decided.{Retouchable, answerBy, pictureLeft, stripLeft};
 
-// A valid chain whose buffers have room, and a point inside.
+// A valid chain whose buffers have room, and a point inside: what is decided is written, unless it is a refusal.
 fn retouch_valid(
-    read: Chain,
-    width: usize,
-    height: usize,
+    chain: Chain,
     data: &[u8],
     picture: &mut [u8],
     strip: &mut [u8],
-    index: usize,
-    color: Pixel,
+    point: Point,
 ) -> u32
-    requires { ⌜ Ready (stepsIn (read .steps)) (read .count) width height (length (now «data»)) × Holds width height (now picture) × (index < height * width) ⌝ }
-    requires { ⌜ (read .width ≡ widthAfter (stepsIn (read .steps)) width (read .count)) × (4 * (height * read .width) ≤ length (now strip)) ⌝ }
-    ensures { λ r. ⌜ Retouched (stepsIn (read .steps)) (now («data» .entry)) (read .count) (height * read .width) (paint (pixels (now (picture .entry))) index color) index (now (strip .entry)) (height * width) (now (picture .entry)) r (now (picture .exit)) (now (strip .exit)) ⌝ }
+    requires { ⌜ Retouchable chain (now «data») (now picture) (now strip) point ⌝ }
+    ensures { λ r. ⌜ r ≡ answerBy chain (now («data» .entry)) (now (picture .entry)) (now (strip .entry)) point ⌝ }
+    ensures { λ r. ⌜ now (picture .exit) ≡ pictureLeft chain (now (picture .entry)) point r ⌝ }
+    ensures { λ r. ⌜ now (strip .exit) ≡ stripLeft chain (now («data» .entry)) (now (picture .entry)) (now (strip .entry))
+        point r ⌝ }
 {
-    let steps = read.steps;
-    let n = height * read.width;
-    let decision = decide(
-        steps,
-        read.count,
-        n,
-        width,
-        height,
-        data,
-        picture,
-        strip,
-        index,
-        color,
-    );
-    if decision.answer == 22 {
-        return 22;
+    let decision = decide(chain, data, picture, strip, point);
+    if decision.answer < 256 {
+        return decision.answer;
     }
     let spots = decision.spots;
     let records = decision.records;
-    put_pixel(picture, index, color);
-    write(strip, n, spots, records);
+    put_pixel(picture, point.index, point.color);
+    write(strip, records_in(chain), spots, records);
     decision.answer
 }
 
@@ -65,19 +49,16 @@ pub fn retouch(
     y: usize,
     color: Pixel,
 ) -> u32
-    ensures { λ r. ⌜ r ≡ retouchAnswer width height (now (chain .entry)) (now («data» .entry)) (now (picture .entry)) (now (strip .entry)) x y color ⌝ }
-    ensures { λ r. ⌜ now (picture .exit) ≡ retouchPicture width height (now (chain .entry)) (now («data» .entry)) (now (picture .entry)) (now (strip .entry)) x y color ⌝ }
-    ensures { λ r. ⌜ now (strip .exit) ≡ retouchStrip width height (now (chain .entry)) (now («data» .entry)) (now (picture .entry)) (now (strip .entry)) x y color ⌝ }
+    ensures { λ r. ⌜ r ≡ retouchAnswer width height (now (chain .entry)) (now («data» .entry))
+        (now (picture .entry)) (now (strip .entry)) x y color ⌝ }
+    ensures { λ r. ⌜ now (picture .exit) ≡ retouchPicture width height (now (chain .entry)) (now («data» .entry))
+        (now (picture .entry)) (now (strip .entry)) x y color ⌝ }
+    ensures { λ r. ⌜ now (strip .exit) ≡ retouchStrip width height (now (chain .entry)) (now («data» .entry))
+        (now (picture .entry)) (now (strip .entry)) x y color ⌝ }
 {
-    let read = read_chain(width, height, chain, data.len());
-    if read.refusal != 0 {
-        return read.refusal;
-    }
-    if picture.len() < 4 * (height * width) {
-        return 8;
-    }
-    if strip.len() < 4 * (height * read.width) {
-        return 8;
+    let opened = open(width, height, chain, data, picture, strip);
+    if opened.refusal != 0 {
+        return opened.refusal;
     }
     if width <= x {
         return 9;
@@ -85,6 +66,9 @@ pub fn retouch(
     if height <= y {
         return 9;
     }
-    let index = y * width + x;
-    retouch_valid(read, width, height, data, picture, strip, index, color)
+    let point = Point {
+        index: expanded_index(x, y, opened.width),
+        color,
+    };
+    retouch_valid(opened, data, picture, strip, point)
 }

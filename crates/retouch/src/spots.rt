@@ -1,5 +1,9 @@
-// The records of a point's spots: the point followed through the chain. A predictor has five spots for it, and a chain at most one predictor.
+// The records of a point's spots: the point followed through the chain. A predictor has five spots for it, and a
+// chain at most one predictor.
+use chain::Chain;
 use format::Step;
+use item::place::expanded_place;
+use item::place::packed_index;
 use pixel::stride::Expanded;
 use pixel::stride::packed_width;
 use pixel::stride::per_pixel;
@@ -9,8 +13,8 @@ ghost use Prim.Native.Nat.{_≤_};
 ghost use lib.ListN.{getD};
 ghost use Rattle.format.specs.Indices.{union};
 ghost use Rattle.format.specs.Retouch.{fiveSpots, packedOver, placeOf, spotsOf, spotRecords};
-ghost use Rattle.chain.specs.Ready.{stepsIn};
-ghost use Rattle.retouch.specs.Spots.{Followed, Sound, recordsOf};
+ghost use Rattle.chain.specs.Valid.{stepsOf};
+ghost use Rattle.retouch.specs.Spots.{Followed, Sound, recordsOf, firstOf, placesOf};
 
 // The first `count` of `records`: one, or five in the order of the spots.
 pub struct Spots {
@@ -19,13 +23,12 @@ pub struct Spots {
 }
 
 // The packed pixel that holds item q of a table's stage.
-fn packed_over(s: Step, q: usize) -> usize
-    requires { ⌜ (1 ≤ s .width) × (s .width ≤ 16384) × (s .kind ≡ 3) ⌝ }
-    ensures { λ r. ⌜ (r ≡ packedOver (s .width) (s .size) q) × (r ≤ q) ⌝ }
+fn packed_over(row: Expanded, size: usize, q: usize) -> usize
+    requires { ⌜ (1 ≤ row .0) × (row .0 ≤ 16384) ⌝ }
+    ensures { λ r. ⌜ (r ≡ packedOver (row .0) size q) × (r ≤ q) ⌝ }
 {
-    let w = s.width;
-    let packed = packed_width(Expanded(w), s.size);
-    q / w * packed.0 + q % w / per_pixel(s.size)
+    let at = expanded_place(q, row);
+    packed_index(at.x / per_pixel(size), at.y, packed_width(row, size))
 }
 
 // Where a record that is no predictor puts item q.
@@ -33,12 +36,16 @@ fn place(s: Step, q: usize) -> usize
     requires { ⌜ (1 ≤ s .width) × (s .width ≤ 16384) ⌝ }
     ensures { λ r. ⌜ (r ≡ placeOf s q) × (r ≤ q) ⌝ }
 {
-    if s.kind == 3 { packed_over(s, q) } else { q }
+    if s.kind == 3 {
+        packed_over(Expanded(s.width), s.size, q)
+    } else {
+        q
+    }
 }
 
 fn place_each(s: Step, records: [usize; 5]) -> [usize; 5]
     requires { ⌜ (1 ≤ s .width) × (s .width ≤ 16384) ⌝ }
-    ensures { λ r. ⌜ (r ≡ placeOf s (getD records 0 0) ∷ placeOf s (getD records 1 0) ∷ placeOf s (getD records 2 0) ∷ placeOf s (getD records 3 0) ∷ placeOf s (getD records 4 0) ∷ []) × (getD r 0 0 ≤ getD records 0 0) ⌝ }
+    ensures { λ r. ⌜ (r ≡ placesOf s records) × (getD r 0 0 ≤ getD records 0 0) ⌝ }
 {
     [
         place(s, records[0]),
@@ -59,9 +66,9 @@ fn five_spots(w: usize, p: usize) -> [usize; 5]
 
 // The spots after one record more.
 fn follow(s: Step, spots: Spots) -> Spots
-    requires { ⌜ (1 ≤ s .width) × (s .width ≤ 16384) × (getD (spots .records) 0 0 ≤ 268435456) ⌝ }
+    requires { ⌜ (1 ≤ s .width) × (s .width ≤ 16384) × (firstOf spots ≤ 268435456) ⌝ }
     requires { ⌜ Sound spots × (s .kind ≡ 0 → spots .count ≡ 1) ⌝ }
-    ensures { λ r. ⌜ (recordsOf r ≡ union (spotsOf s) (recordsOf spots)) × (getD (r .records) 0 0 ≤ getD (spots .records) 0 0) × Sound r ⌝ }
+    ensures { λ r. ⌜ (recordsOf r ≡ union (spotsOf s) (recordsOf spots)) × (firstOf r ≤ firstOf spots) × Sound r ⌝ }
 {
     let records = spots.records;
     if s.kind == 0 {
@@ -76,17 +83,18 @@ fn follow(s: Step, spots: Spots) -> Spots
     }
 }
 
-// The records of the spots of pixel p, after the first `count` records of a chain.
-pub fn spots_of(steps: [Step; 4], count: usize, p: usize) -> Spots
-    requires { ⌜ Followed (stepsIn steps) count × (p ≤ 268435456) ⌝ }
-    ensures { λ r. ⌜ (recordsOf r ≡ spotRecords (stepsIn steps) count p) × Sound r ⌝ }
+// The records of the spots of pixel p.
+pub fn spots_of(chain: Chain, p: usize) -> Spots
+    requires { ⌜ Followed chain × (p ≤ 268435456) ⌝ }
+    ensures { λ r. ⌜ (recordsOf r ≡ spotRecords (stepsOf chain) (chain .count) (p ∷ [])) × Sound r ⌝ }
 {
     let mut spots = Spots {
         records: [p, 0, 0, 0, 0],
         count: 1,
     };
+    let steps = chain.steps;
     let mut k = 0;
-    while k < count {
+    while k < chain.count {
         spots = follow(steps[k], spots);
         k += 1;
     }

@@ -4,13 +4,13 @@ use mathlib.Core.Path.{ap, _∙_}
 use Prim.Native.Nat.{ℕ, _+_, _-_, _*_, _<_}
 use native.Mathlib.Omega.{arith}
 use borrow.Author.Needs.{needs}
-use Rattle.chain.specs.Ready.{stepsIn}
+use Rattle.chain.specs.Valid.{stepsOf}
 use Rattle.chain.proofs.Parts.{table-kind}
 use Rattle.item.specs.Made.{mapped}
 use Rattle.item.proofs.WhenMade.{asked-none, asked-one}
 use Rattle.item.proofs.Inside.{row-small, item-inside, neighbor-inside}
 use Rattle.item.proofs.Stage.{made-first, made-later, made-1, made-2, made-3, residual-next, record-next, record-room}
-use Rattle.item.proofs.Before.{picture-room, ready-later, inside-later, ready-before, valid-here, sized-here, inside-before, inside-kept, column-here, row-here, records-some, records-row, records-column}
+use Rattle.item.proofs.Before.{picture-room, counted, inside-later, inside-kept, sized-here, inside-before, place-here, block-here, records-some, records-row, records-column}
 use Rattle.item.proofs.Columns.{no-columns, columns-end}
 use borrow.Fn.Kinds.{In}
 use borrow.Fn.PlainCycle.{Measures, is, falls, and}
@@ -26,11 +26,12 @@ use Rattle.item.proofs.+item+neighbor+packed+residual.Lts-packed as pac
 use Rattle.item.proofs.residual.Reads as residual
 use Rattle.item.proofs.residual.Kinds as residual-kinds
 use Rattle.item.proofs.+item+neighbor+packed+residual.Lts-residual as residual-lts
-use Rattle.color_table.proofs.table.per_pixel.Reads as per-pixel-reads
-use Rattle.color_table.proofs.unpack.packed_width.Reads as packed-width-reads
 use Rattle.item.proofs.around.neighbor_index.Reads as neighbor-index-reads
 use Rattle.item.proofs.block.mode_at.Reads as mode-at-reads
 use Rattle.item.proofs.painted.Reads as painted-reads
+use Rattle.item.proofs.place.expanded_index.Reads as expanded-index-reads
+use Rattle.item.proofs.place.expanded_place.Reads as expanded-place-reads
+use Rattle.item.proofs.place.packed_place.Reads as packed-place-reads
 use Rattle.item.proofs.predict.black_of.Reads as black-of-reads
 use Rattle.item.proofs.predict.names.Reads as names-reads
 use Rattle.item.proofs.table.joined.Reads as joined-reads
@@ -38,6 +39,8 @@ use Rattle.item.proofs.table.record_of.Reads as record-of-reads
 use Rattle.item.proofs.transform.color_of.Reads as color-of-reads
 use Rattle.item.proofs.transform.green_of.Reads as green-of-reads
 use Rattle.item.proofs.transform.residual_of.Reads as residual-of-reads
+use Rattle.pixel.proofs.stride.packed_width.Reads as packed-width-reads
+use Rattle.pixel.proofs.stride.per_pixel.Reads as per-pixel-reads
 use Rattle.item.proofs.+item+neighbor+packed+residual.{statement}
 use Rattle.item.proofs.+item+neighbor+packed+residual.Tie.{close}
 
@@ -87,6 +90,8 @@ pub +item+neighbor+packed+residual-spec : {M : Type 1} → statement M
       painted-reads.Learnt,
       residual-below t,
       residual.Post,
+      expanded-place-reads.Asked,
+      expanded-place-reads.Learnt,
       item-below t,
       item.Post,
       color-of-reads.Asked,
@@ -97,63 +102,76 @@ pub +item+neighbor+packed+residual-spec : {M : Type 1} → statement M
       per-pixel-reads.Learnt,
       packed-width-reads.Asked,
       packed-width-reads.Learnt,
+      packed-place-reads.Asked,
+      packed-place-reads.Learnt,
       packed-below t,
       packed.Post,
     )
     (item-at t)
     item.Post
-    (λ c κs. let p = c .before .before .before .pre .1 in picture-room _ _ _ _ _ (c .before .before .before .args .picture .now) (c .if1 .taken) (p .1) (p .2))
+    (λ c κs. let p = c .before .before .before .pre .1 in picture-room (c .before .before .before .args .t1) _ _ (c .before .before .before .args .picture .now) (c .if1 .taken) (p .0 .held) (p .2))
     (λ c. made-first _ _ _ _ _ (c .before .if1 .taken) _ (c .painted .ensures))
     (λ c. omega arith)
-    (λ c. omega (arith, c .before .before .before .pre .1 .0 .few))
-    (λ c. omega (arith, c .before .before .before .pre .1 .0 .few))
+    (λ c. omega (arith, c .before .before .before .pre .1 .1, c .before .before .before .pre .1 .0 .valid .few, c .if1 .left))
+    (λ c. omega (arith, c .before .before .before .pre .1 .1, c .before .before .before .pre .1 .0 .valid .few, c .if1 .left))
     (λ c κs.
     let p = c .before .before .before .before .before .pre .1 in
-    let r = ready-later _ _ _ _ _ (c .before .before .if1 .left) (p .0) in
+    let d = c .before .before .if1 .left in
     let z = c .match .keys1 in
-    (omega (arith, c .before .before .before .before .before .pre .0, c .before .before .if1 .left), (r, p .1, z, inside-kept _ _ _ _ _ (c .before .before .if1 .left) (p .2) (λ e. omega arith))))
+    (omega (arith, c .before .before .before .before .before .pre .0, d), ((p .0, counted _ _ d (p .1), z), inside-kept (c .before .before .before .before .before .args .t1) _ _ d (p .2) (λ e. omega arith))))
     (λ c κs.
     let p = c .before .before .before .before .before .pre .1 in
-    let r = ready-later _ _ _ _ _ (c .before .before .if1 .left) (p .0) in
-    let z = c .match .keys2 in
-    (omega (arith, c .before .before .before .before .before .pre .0, c .before .before .if1 .left), (ready-before _ _ _ _ _ r, p .1, inside-before _ _ _ _ _ r _ (inside-kept _ _ _ _ _ (c .before .before .if1 .left) (p .2) (λ e. omega arith)))))
+    sized-here (c .before .before .before .before .before .args .t1) _ (p .0 .valid) _ (counted _ _ (c .before .before .if1 .left) (p .1)) .wide)
     (λ c κs.
     let p = c .before .before .before .before .before .before .pre .1 in
-    let r = ready-later _ _ _ _ _ (c .before .before .before .if1 .left) (p .0) in
+    let d = c .before .before .before .if1 .left in
+    let u = counted _ _ d (p .1) in
     let z = c .before .match .keys2 in
-    (sized-here _ _ _ _ _ r, valid-here _ _ _ _ _ r, z, inside-kept _ _ _ _ _ (c .before .before .before .if1 .left) (p .2) (λ e. omega arith)))
-    (λ c κs.
-    let p = c .before .before .before .before .before .pre .1 in
-    let r = ready-later _ _ _ _ _ (c .before .before .if1 .left) (p .0) in
-    let z = c .match .keys3 in
-    (omega (arith, c .before .before .before .before .before .pre .0, c .before .before .if1 .left), (ready-before _ _ _ _ _ r, p .1, inside-before _ _ _ _ _ r _ (inside-kept _ _ _ _ _ (c .before .before .if1 .left) (p .2) (λ e. omega arith)))))
-    (λ c κs. search needs)
-    (λ c κs. search needs)
-    (λ c κs. sized-here _ _ _ _ _ (ready-later _ _ _ _ _ (c .before .before .before .if1 .left) (c .before .before .before .before .before .before .pre .1 .0)) .narrow)
-    (λ c.
-    let r = ready-later _ _ _ _ _ (c .before .before .before .before .if1 .left) (c .before .before .before .before .before .before .before .pre .1 .0) in
-    let z = table-kind _ _ _ (valid-here _ _ _ _ _ r) (c .before .before .match .rest) in
-    omega (arith, records-some _ _ _ _ _ r _ z (c .packed-width .ensures)))
-    (λ c.
-    let r = ready-later _ _ _ _ _ (c .before .before .before .before .if1 .left) (c .before .before .before .before .before .before .before .pre .1 .0) in
-    let z = table-kind _ _ _ (valid-here _ _ _ _ _ r) (c .before .before .match .rest) in
-    omega (arith, records-column _ _ _ _ _ r _ z (c .packed-width .ensures) (c .before .before .before .before .before .before .before .args .q) _ (c .before .per-pixel .ensures .2)))
-    (λ c.
-    let r = ready-later _ _ _ _ _ (c .before .before .before .before .if1 .left) (c .before .before .before .before .before .before .before .pre .1 .0) in
-    let z = table-kind _ _ _ (valid-here _ _ _ _ _ r) (c .before .before .match .rest) in
-    omega (arith, records-some _ _ _ _ _ r _ z (c .packed-width .ensures)))
+    (omega (arith, c .before .before .before .before .before .before .pre .0, d), (p .0, omega (arith, u), inside-before (c .before .before .before .before .before .before .args .t1) _ (p .0 .valid) _ u _ (inside-kept (c .before .before .before .before .before .before .args .t1) _ _ d (p .2) (λ e. omega arith)))))
     (λ c κs.
     let p = c .before .before .before .before .before .before .before .pre .1 in
-    let r = ready-later _ _ _ _ _ (c .before .before .before .before .if1 .left) (p .0) in
-    let z = table-kind _ _ _ (valid-here _ _ _ _ _ r) (c .before .before .match .rest) in
-    (omega (arith, c .before .before .before .before .before .before .before .pre .0, c .before .before .before .before .if1 .left, c .before .per-pixel .ensures .2), (r, p .1, z, records-row _ _ _ _ _ r _ z (c .packed-width .ensures) _ (inside-later _ _ _ _ _ (c .before .before .before .before .if1 .left) (p .2)), omega (arith, c .before .per-pixel .ensures .0))))
+    let d = c .before .before .before .before .if1 .left in
+    let z = c .before .before .match .keys2 in
+    let a = c .before .expanded-place .ensures in
+    block-here (c .before .before .before .before .before .before .before .args .t1) _ (p .0 .valid) _ (counted _ _ d (p .1)) _ _ _ (inside-kept (c .before .before .before .before .before .before .before .args .t1) _ _ d (p .2) (λ e. omega arith)) (a .0) (a .1) (omega arith))
+    (λ c κs.
+    let p = c .before .before .before .before .before .pre .1 in
+    let d = c .before .before .if1 .left in
+    let u = counted _ _ d (p .1) in
+    let z = c .match .keys3 in
+    (omega (arith, c .before .before .before .before .before .pre .0, d), (p .0, omega (arith, u), inside-before (c .before .before .before .before .before .args .t1) _ (p .0 .valid) _ u _ (inside-kept (c .before .before .before .before .before .args .t1) _ _ d (p .2) (λ e. omega arith)))))
+    (λ c κs. search needs)
+    (λ c κs. search needs)
+    (λ c κs.
+    let p = c .before .before .before .before .before .before .pre .1 in
+    sized-here (c .before .before .before .before .before .before .args .t1) _ (p .0 .valid) _ (counted _ _ (c .before .before .before .if1 .left) (p .1)) .narrow)
+    (λ c κs.
+    let p = c .before .before .before .before .before .before .before .pre .1 in
+    let u = counted _ _ (c .before .before .before .before .if1 .left) (p .1) in
+    let z = table-kind _ _ _ (p .0 .valid .step _ u) (c .before .before .match .rest) in
+    records-some (c .before .before .before .before .before .before .before .args .t1) _ (p .0 .valid) _ u _ z (c .packed-width .ensures))
+    (λ c.
+    let p = c .before .before .before .before .before .before .before .before .before .pre .1 in
+    let u = counted _ _ (c .before .before .before .before .before .before .if1 .left) (p .1) in
+    let z = table-kind _ _ _ (p .0 .valid .step _ u) (c .before .before .before .before .match .rest) in
+    omega (arith, records-column (c .before .before .before .before .before .before .before .before .before .args .t1) _ (p .0 .valid) _ u _ z (c .before .before .packed-width .ensures) (c .before .before .before .before .before .before .before .before .before .args .q) _ _ (c .before .packed-place .ensures .0) (c .before .before .before .per-pixel .ensures .1 .most)))
+    (λ c κs.
+    let p = c .before .before .before .before .before .before .before .before .before .pre .1 in
+    let d = c .before .before .before .before .before .before .if1 .left in
+    let u = counted _ _ d (p .1) in
+    let z = table-kind _ _ _ (p .0 .valid .step _ u) (c .before .before .before .before .match .rest) in
+    let row = records-row (c .before .before .before .before .before .before .before .before .before .args .t1) _ (p .0 .valid) _ u _ z (c .before .before .packed-width .ensures) _ _ (c .before .packed-place .ensures .1) (inside-later (c .before .before .before .before .before .before .before .before .before .args .t1) _ _ d (p .2)) in
+    (omega (arith, c .before .before .before .before .before .before .before .before .before .pre .0, d, c .before .before .before .per-pixel .ensures .1 .most), ((p .0, u, z), (row, omega (arith, c .before .before .before .per-pixel .ensures .0)))))
     (λ c. c .residual .ensures ∙ made-later _ _ _ _ _ (c .before .before .before .if1 .left))
-    (λ c. c .color-of .ensures ∙ ap (mapped _) (c .before .item .ensures) ∙ made-1 _ _ _ _ (c .before .before .match .keys2) _ ∙ made-later _ _ _ _ _ (c .before .before .before .before .if1 .left))
+    (λ c.
+    let a = c .before .before .expanded-place .ensures in
+    c .color-of .ensures ∙ ap (mapped _) (c .before .item .ensures) ∙ made-1 _ _ _ _ (c .before .before .before .match .keys2) _ _ _ (a .0) (a .1) ∙ made-later _ _ _ _ _ (c .before .before .before .before .before .if1 .left))
     (λ c. c .green-of .ensures ∙ ap (mapped _) (c .before .item2 .ensures) ∙ made-2 _ _ _ _ (c .before .before .match .keys3) _ ∙ made-later _ _ _ _ _ (c .before .before .before .before .if1 .left))
     (λ c.
-    let r = ready-later _ _ _ _ _ (c .before .before .before .before .before .if1 .left) (c .before .before .before .before .before .before .before .before .pre .1 .0) in
-    let z = table-kind _ _ _ (valid-here _ _ _ _ _ r) (c .before .before .before .match .rest) in
-    c .packed .ensures ∙ made-3 _ _ _ _ z _ _ _ (c .before .packed-width .ensures) (c .before .before .per-pixel .ensures .0) ∙ made-later _ _ _ _ _ (c .before .before .before .before .before .if1 .left)))
+    let p = c .before .before .before .before .before .before .before .before .before .before .pre .1 in
+    let z = table-kind _ _ _ (p .0 .valid .step _ (counted _ _ (c .before .before .before .before .before .before .before .if1 .left) (p .1))) (c .before .before .before .before .before .match .rest) in
+    let a = c .before .before .packed-place .ensures in
+    c .packed .ensures ∙ made-3 _ _ _ _ z _ _ _ _ _ (c .before .before .before .packed-width .ensures) (c .before .before .before .before .per-pixel .ensures .0) (a .0) (a .1) ∙ made-later _ _ _ _ _ (c .before .before .before .before .before .before .before .if1 .left)))
     (λ t. neighbor-lts.spec (
       names-reads.Asked,
       names-reads.Learnt,
@@ -166,22 +184,24 @@ pub +item+neighbor+packed+residual-spec : {M : Type 1} → statement M
     )
     (neighbor-at t)
     neighbor.Post
-    (λ c κs. c .before .before .pre .1 .4)
+    (λ c κs. c .before .before .pre .1 .0 .2)
     (λ c κs. search needs)
     (λ c. asked-none _ _ _ _ (c .before .before .names .ensures) (c .before .if1 .taken) (c .black-of .ensures))
-    (λ c. omega (arith, c .before .before .before .before .pre .1 .0 .few))
-    (λ c. omega (arith, c .before .before .before .before .pre .1 .0 .few))
+    (λ c. omega (arith, c .before .before .before .before .pre .1 .0 .1, c .before .before .before .before .pre .1 .0 .0 .valid .few))
+    (λ c. omega (arith, c .before .before .before .before .pre .1 .0 .1, c .before .before .before .before .pre .1 .0 .0 .valid .few))
     (λ c κs.
     let p = c .before .before .before .before .before .pre .1 in
-    let s = sized-here _ _ _ _ _ (p .0) in
-    (p .4, p .2, s .narrow, omega (arith, s .low)))
+    let s = sized-here (c .before .before .before .before .before .args .t1) _ (p .0 .0 .valid) _ (p .0 .1) in
+    (p .0 .2, p .1 .0, s .narrow, omega (arith, s .low, p .1 .1)))
     (λ c κs.
     let p = c .before .before .before .before .before .before .pre .1 in
-    (omega (arith, c .before .before .before .before .before .before .pre .0), (ready-before _ _ _ _ _ (p .0), p .1, inside-before _ _ _ _ _ (p .0) _ (rw (c .neighbor-index .ensures) (neighbor-inside _ _ _ _ (p .2) (p .3) _)))))
+    (omega (arith, c .before .before .before .before .before .before .pre .0), (p .0 .0, omega (arith, p .0 .1), inside-before (c .before .before .before .before .before .before .args .t1) _ (p .0 .0 .valid) _ (p .0 .1) _ (rw (c .neighbor-index .ensures) (neighbor-inside _ _ _ _ (p .1 .0) (p .1 .1) _)))))
     (λ c. c .item .ensures ∙ rw (c .before .neighbor-index .ensures) (asked-one _ _ _ (c .before .before .before .before .names .ensures) (c .before .before .before .if1 .left))))
     (λ t. packed-lts.spec (
       record-of-reads.Asked,
       record-of-reads.Learnt,
+      expanded-index-reads.Asked,
+      expanded-index-reads.Learnt,
       item-below t,
       item.Post,
       packed-below t,
@@ -191,29 +211,35 @@ pub +item+neighbor+packed+residual-spec : {M : Type 1} → statement M
     )
     (packed-at t)
     packed.Post
-    (λ c. omega (arith, c .before .before .pre .1 .0 .few))
-    (λ c. omega (arith, c .before .before .pre .1 .0 .few))
+    (λ c. omega (arith, c .before .before .pre .1 .0 .1, c .before .before .pre .1 .0 .0 .valid .few))
+    (λ c. omega (arith, c .before .before .pre .1 .0 .1, c .before .before .pre .1 .0 .0 .valid .few))
     (λ c κs. search needs)
     (λ c. no-columns _ _ _ _ _ _ _ _ _ (c .before .if1 .taken) (c .record-of .ensures))
     (λ c κs. search needs)
     (λ c. columns-end _ _ _ _ _ _ _ _ _ (c .before .if2 .taken) (c .record-of2 .ensures))
-    (λ c. let s = sized-here _ _ _ _ _ (c .before .before .before .before .before .before .before .pre .1 .0) in omega (arith, row-small _ (c .before .before .before .before .before .before .before .args .y) (s .narrow) (omega (arith, s .low, c .before .before .before .before .before .before .before .pre .1 .3))))
-    (λ c. let s = sized-here _ _ _ _ _ (c .before .before .before .before .before .before .before .pre .1 .0) in omega (arith, row-small _ (c .before .before .before .before .before .before .before .args .y) (s .narrow) (omega (arith, s .low, c .before .before .before .before .before .before .before .pre .1 .3)), c .before .if2 .left, s .narrow))
+    (λ c κs.
+    let p = c .before .before .before .before .before .before .pre .1 in
+    let s = sized-here (c .before .before .before .before .before .before .args .t1) _ (p .0 .0 .valid) _ (p .0 .1) in
+    omega (arith, row-small _ (c .before .before .before .before .before .before .args .y) (s .narrow) (omega (arith, s .low, p .1 .0)), c .if2 .left, s .narrow))
     (λ c κs.
     let p = c .before .before .before .before .before .before .before .pre .1 in
-    (omega (arith, c .before .before .before .before .before .before .before .pre .0), (ready-before _ _ _ _ _ (p .0), p .1, inside-before _ _ _ _ _ (p .0) _ (item-inside _ _ _ _ (c .before .if2 .left) (p .3)))))
+    (omega (arith, c .before .before .before .before .before .before .before .pre .0), (p .0 .0, omega (arith, p .0 .1), inside-before (c .before .before .before .before .before .before .before .args .t1) _ (p .0 .0 .valid) _ (p .0 .1) _ (rw (c .expanded-index .ensures) (item-inside _ _ _ _ (c .before .if2 .left) (p .1 .0))))))
     (λ c. omega arith)
-    (λ c. omega (arith, c .before .before .if2 .left))
+    (λ c.
+    let p = c .before .before .before .before .before .before .before .before .pre .1 in
+    omega (arith, c .before .before .if2 .left, sized-here (c .before .before .before .before .before .before .before .before .args .t1) _ (p .0 .0 .valid) _ (p .0 .1) .narrow))
     (λ c κs.
     let p = c .before .before .before .before .before .before .before .before .pre .1 in
-    (omega (arith, c .before .before .before .before .before .before .before .before .pre .0, c .before .before .before .before .if1 .left), (p .0, p .1, p .2, p .3, omega (arith, p .4))))
+    (omega (arith, c .before .before .before .before .before .before .before .before .pre .0, c .before .before .before .before .if1 .left), (p .0, (p .1 .0, omega (arith, p .1 .1)))))
     (λ c κs.
     let p = c .before .before .before .before .before .before .before .before .before .pre .1 in
-    let v = valid-here _ _ _ _ _ (p .0) in
-    let t = v .table (p .2) in
-    (v .inside, omega (arith, t .long), t .most, record-room (stepsIn (c .before .before .before .before .before .before .before .before .before .args .t1)) _ (c .before .before .before .before .before .before .before .before .before .args .k) _ (p .2) (t .most) _ (c .before .before .before .before .before .before .before .before .before .args .n - 1) _ _ (c .packed .ensures) (omega (arith, p .4, c .before .before .before .before .before .if1 .left))))
-    (λ c. record-next _ _ _ _ (c .before .before .before .before .before .before .before .before .before .before .pre .1 .2) _ _ _ _ _ _ _ (omega (arith, c .before .before .before .before .before .before .if1 .left)) (c .before .before .before .before .if2 .left) (c .joined .ensures) (c .before .before .item .ensures) (c .before .packed .ensures)))
+    let v = p .0 .0 .valid .step _ (p .0 .1) in
+    let t = v .table (p .0 .2) in
+    (record { inside = v .inside; table = t }, record-room (stepsOf (c .before .before .before .before .before .before .before .before .before .args .t1)) _ (c .before .before .before .before .before .before .before .before .before .args .k) _ (p .0 .2) (t .most) _ (c .before .before .before .before .before .before .before .before .before .args .n - 1) _ _ (c .packed .ensures) (omega (arith, p .1 .1, c .before .before .before .before .before .if1 .left))))
+    (λ c. record-next _ _ _ _ (c .before .before .before .before .before .before .before .before .before .before .pre .1 .0 .2) _ _ _ _ _ _ _ (omega (arith, c .before .before .before .before .before .before .if1 .left)) (c .before .before .before .before .if2 .left) (c .joined .ensures) (rw (c .before .before .before .expanded-index .ensures) at (c .before .before .item .ensures)) (c .before .packed .ensures)))
     λ t. residual-lts.spec (
+      expanded-place-reads.Asked,
+      expanded-place-reads.Learnt,
       mode-at-reads.Asked,
       mode-at-reads.Learnt,
       item-below t,
@@ -225,28 +251,37 @@ pub +item+neighbor+packed+residual-spec : {M : Type 1} → statement M
     )
     (residual-at t)
     residual.Post
-    (λ c. omega (arith, c .before .before .pre .1 .0 .few))
-    (λ c. omega (arith, c .before .before .pre .1 .0 .few))
-    (λ c. omega (arith, sized-here _ _ _ _ _ (c .before .before .before .pre .1 .0) .wide))
-    (λ c. omega (arith, sized-here _ _ _ _ _ (c .before .before .before .pre .1 .0) .wide))
-    (λ c κs.
-    let p = c .before .before .before .pre .1 in
-    (sized-here _ _ _ _ _ (p .0), valid-here _ _ _ _ _ (p .0), omega (arith, p .2), column-here _ _ _ _ _ (p .0) _, row-here _ _ _ _ _ (p .0) _ (p .3)))
+    (λ c. omega (arith, c .before .before .pre .1 .0 .1, c .before .before .pre .1 .0 .0 .valid .few))
+    (λ c. omega (arith, c .before .before .pre .1 .0 .1, c .before .before .pre .1 .0 .0 .valid .few))
+    (λ c κs. let p = c .before .before .before .pre .1 .0 in sized-here (c .before .before .before .args .t1) _ (p .0 .valid) _ (p .1) .wide)
     (λ c κs.
     let p = c .before .before .before .before .pre .1 in
-    (omega (arith, c .before .before .before .before .pre .0), (ready-before _ _ _ _ _ (p .0), p .1, inside-before _ _ _ _ _ (p .0) _ (p .3))))
+    let a = c .expanded-place .ensures in
+    block-here (c .before .before .before .before .args .t1) _ (p .0 .0 .valid) _ (p .0 .1) _ _ _ (p .1) (a .0) (a .1) (omega (arith, p .0 .2)))
     (λ c κs.
     let p = c .before .before .before .before .before .pre .1 in
-    (omega (arith, c .before .before .before .before .before .pre .0), (p .0, p .1, column-here _ _ _ _ _ (p .0) _, row-here _ _ _ _ _ (p .0) _ (p .3), omega arith)))
+    (omega (arith, c .before .before .before .before .before .pre .0), (p .0 .0, omega (arith, p .0 .1), inside-before (c .before .before .before .before .before .args .t1) _ (p .0 .0 .valid) _ (p .0 .1) _ (p .1))))
     (λ c κs.
     let p = c .before .before .before .before .before .before .pre .1 in
-    (omega (arith, c .before .before .before .before .before .before .pre .0), (p .0, p .1, column-here _ _ _ _ _ (p .0) _, row-here _ _ _ _ _ (p .0) _ (p .3), omega arith)))
+    let a = c .before .before .expanded-place .ensures in
+    let w = place-here (c .before .before .before .before .before .before .args .t1) _ (p .0 .0 .valid) _ (p .0 .1) _ _ _ (p .1) (a .0) (a .1) in
+    (omega (arith, c .before .before .before .before .before .before .pre .0), ((p .0 .0, p .0 .1, omega arith), w)))
     (λ c κs.
     let p = c .before .before .before .before .before .before .before .pre .1 in
-    (omega (arith, c .before .before .before .before .before .before .before .pre .0), (p .0, p .1, column-here _ _ _ _ _ (p .0) _, row-here _ _ _ _ _ (p .0) _ (p .3), omega arith)))
+    let a = c .before .before .before .expanded-place .ensures in
+    let w = place-here (c .before .before .before .before .before .before .before .args .t1) _ (p .0 .0 .valid) _ (p .0 .1) _ _ _ (p .1) (a .0) (a .1) in
+    (omega (arith, c .before .before .before .before .before .before .before .pre .0), ((p .0 .0, p .0 .1, omega arith), w)))
     (λ c κs.
     let p = c .before .before .before .before .before .before .before .before .pre .1 in
-    (omega (arith, c .before .before .before .before .before .before .before .before .pre .0), (p .0, p .1, column-here _ _ _ _ _ (p .0) _, row-here _ _ _ _ _ (p .0) _ (p .3), omega arith)))
+    let a = c .before .before .before .before .expanded-place .ensures in
+    let w = place-here (c .before .before .before .before .before .before .before .before .args .t1) _ (p .0 .0 .valid) _ (p .0 .1) _ _ _ (p .1) (a .0) (a .1) in
+    (omega (arith, c .before .before .before .before .before .before .before .before .pre .0), ((p .0 .0, p .0 .1, omega arith), w)))
+    (λ c κs.
+    let p = c .before .before .before .before .before .before .before .before .before .pre .1 in
+    let a = c .before .before .before .before .before .expanded-place .ensures in
+    let w = place-here (c .before .before .before .before .before .before .before .before .before .args .t1) _ (p .0 .0 .valid) _ (p .0 .1) _ _ _ (p .1) (a .0) (a .1) in
+    (omega (arith, c .before .before .before .before .before .before .before .before .before .pre .0), ((p .0 .0, p .0 .1, omega arith), w)))
     (λ c κs. search needs)
     (λ c.
-    residual-next _ _ _ _ (c .before .before .before .before .before .before .before .before .before .before .pre .1 .2) _ _ _ _ _ _ _ _ (c .before .before .before .before .before .before .mode-at .ensures) (c .residual-of .ensures) (c .before .before .before .before .before .item .ensures) (c .before .before .before .before .neighbor .ensures) (c .before .before .before .neighbor2 .ensures) (c .before .before .neighbor3 .ensures) (c .before .neighbor4 .ensures))
+    let a = c .before .before .before .before .before .before .before .expanded-place .ensures in
+    residual-next _ _ _ _ (c .before .before .before .before .before .before .before .before .before .before .before .pre .1 .0 .2) _ _ _ _ _ _ _ _ _ (a .0) (a .1) (c .before .before .before .before .before .before .mode-at .ensures) (c .residual-of .ensures) (c .before .before .before .before .before .item .ensures) (c .before .before .before .before .neighbor .ensures) (c .before .before .before .neighbor2 .ensures) (c .before .before .neighbor3 .ensures) (c .before .neighbor4 .ensures))

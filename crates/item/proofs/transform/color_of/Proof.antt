@@ -1,8 +1,6 @@
 -- `color_of` meets its contract, whether the item is made or missing.
-use native.Mathlib.Omega.{arith}
 use borrow.Author.Needs.{needs}
 use Rattle.item.proofs.WhenMade.{mapped-missing, mapped-item}
-use Rattle.item.proofs.Inside.{column-inside, row-inside}
 use Rattle.item.proofs.transform.color_of.Statement.{statement}
 use Rattle.item.proofs.transform.color_of.Tie as tie
 
@@ -13,10 +11,6 @@ color-of-spec =
     (λ c. search needs)
     (λ c. search needs)
     (λ c. mapped-missing _ _ (c .enum-told .given .1))
-    (λ c. omega (arith, c .before .before .before .before .pre .0 .wide))
-    (λ c. omega (arith, c .before .before .before .before .pre .0 .wide))
-    (λ c κs.
-    let p = c .before .before .before .before .pre in
-    (p .0, p .1, omega (arith, p .2), column-inside _ _ (p .0 .wide), row-inside _ _ (p .0 .wide) _ (p .3)))
+    (λ c κs. search needs)
     (λ c κs. search needs)
     (λ c. mapped-item _ _ _ _ (c .before .before .before .v .given .1) (rw (c .before .block-pixel .ensures) at (c .transform-pixel .ensures))))

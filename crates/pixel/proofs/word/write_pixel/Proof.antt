@@ -10,13 +10,5 @@ write-pixel-spec =
     (tie.spec
     (λ c κs. search needs)
     (λ c κs. search needs)
-    (λ c κs. search needs)
-    (λ c κs. search needs)
-    (λ c κs. search needs)
-    (λ c κs. search needs)
     (λ c. search needs)
-    (λ c.
-    let j = c .before .before .before in
-    let w = j .before in
-    c .before .before .put-word .ensures
-    ∙ rw (j .join .ensures, w .wide4 .ensures .0, w .before .wide3 .ensures .0, w .before .before .wide2 .ensures .0, w .before .before .before .wide .ensures .0)))
+    (λ c. c .before .before .put-word .ensures ∙ rw (c .before .before .before .word-of .ensures)))

@@ -12,4 +12,5 @@ differs-spec =
     (λ c. rw (le-ltb _ _ (c .if1 .taken)) refl)
     (λ c κs. search needs)
     (λ c κs. search needs)
-    (λ c. rw (lt-ltb _ _ (c .before .before .if1 .left), c .same .ensures, c .before .pixel-at .ensures) refl))
+    (λ c κs. search needs)
+    (λ c. rw (lt-ltb _ _ (c .before .before .before .if1 .left), c .same .ensures, c .before .before .word-at .ensures, c .before .word-of .ensures) refl))

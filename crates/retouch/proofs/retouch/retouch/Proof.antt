@@ -1,11 +1,7 @@
 -- `retouch` meets its contract, test by test.
-use mathlib.Core.Path.{sym, _∙_}
 use native.Mathlib.Omega.{arith}
 use borrow.Author.Needs.{needs}
-use Rattle.pixel.proofs.Blocks.{row-there}
-use Rattle.chain.proofs.Sizes.{area-small}
-use Rattle.chain.proofs.Ready.{ready-of, last-of, strip-small}
-use Rattle.retouch.proofs.Answers.{refused-chain, refused-picture, refused-strip, refused-column, refused-row, answered}
+use Rattle.retouch.proofs.Answers.{refused-pair, refused-column, refused-row, index-inside, index-small, answered}
 use Rattle.retouch.proofs.retouch.retouch.Statement.{statement}
 use Rattle.retouch.proofs.retouch.retouch.Tie as tie
 
@@ -14,24 +10,26 @@ retouch-spec =
     tie.close
     (tie.spec
     (λ c κs. search needs)
-    (λ c. refused-chain _ _ _ _ _ _ _ _ _ _ (c .before .before .read-chain .ensures .0) (c .if1 .taken))
-    (λ c. let e = sym (c .before .before .read-chain .ensures .0) ∙ c .if1 .left in omega (arith, area-small _ _ _ _ e))
-    (λ c. let e = sym (c .before .before .read-chain .ensures .0) ∙ c .if1 .left in omega (arith, area-small _ _ _ _ e))
-    (λ c. let e = sym (c .before .before .before .read-chain .ensures .0) ∙ c .before .if1 .left in refused-picture _ _ _ _ _ _ _ _ _ e (c .if2 .taken))
-    (λ c. let e = sym (c .before .before .before .before .read-chain .ensures .0) ∙ c .before .before .if1 .left in let o = c .before .before .before .before .read-chain .ensures .1 e in omega (arith, strip-small _ _ _ _ _ e o))
-    (λ c. let e = sym (c .before .before .before .before .read-chain .ensures .0) ∙ c .before .before .if1 .left in let o = c .before .before .before .before .read-chain .ensures .1 e in omega (arith, strip-small _ _ _ _ _ e o))
-    (λ c. let e = sym (c .before .before .before .before .before .read-chain .ensures .0) ∙ c .before .before .before .if1 .left in let o = c .before .before .before .before .before .read-chain .ensures .1 e in refused-strip _ _ _ _ _ _ _ _ _ e (c .before .before .if2 .left) _ o (c .if3 .taken))
-    (λ c. let e = sym (c .before .before .before .before .before .before .read-chain .ensures .0) ∙ c .before .before .before .before .if1 .left in let o = c .before .before .before .before .before .before .read-chain .ensures .1 e in refused-column _ _ _ _ _ _ _ _ _ e (c .before .before .before .if2 .left) _ o (c .before .if3 .left) (c .if4 .taken))
-    (λ c. let e = sym (c .before .before .before .before .before .before .before .read-chain .ensures .0) ∙ c .before .before .before .before .before .if1 .left in let o = c .before .before .before .before .before .before .before .read-chain .ensures .1 e in refused-row _ _ _ _ _ _ _ _ _ e (c .before .before .before .before .if2 .left) _ o (c .before .before .if3 .left) (c .before .if4 .left) (c .if5 .taken))
-    (λ c. let e = sym (c .before .before .before .before .before .before .before .read-chain .ensures .0) ∙ c .before .before .before .before .before .if1 .left in omega (arith, area-small _ _ _ _ e, row-there (c .before .before .before .before .before .before .before .before .before .before .before .before .args .width) (c .before .before .before .before .before .before .before .before .before .before .before .before .args .height) (c .before .before .before .before .before .before .before .before .before .before .before .before .args .y) (c .if5 .left)))
-    (λ c. let e = sym (c .before .before .before .before .before .before .before .read-chain .ensures .0) ∙ c .before .before .before .before .before .if1 .left in omega (arith, area-small _ _ _ _ e, row-there (c .before .before .before .before .before .before .before .before .before .before .before .before .args .width) (c .before .before .before .before .before .before .before .before .before .before .before .before .args .height) (c .before .before .before .before .before .before .before .before .before .before .before .before .args .y) (c .if5 .left)))
+    (λ c. search needs)
+    (λ c. search needs)
+    (λ c. refused-pair _ _ _ _ _ _ _ _ _ _ (c .before .before .«open» .ensures) (c .if1 .taken))
+    (λ c. search needs)
+    (λ c. search needs)
+    (λ c. refused-column _ _ _ _ _ _ _ _ _ _ (c .before .before .before .«open» .ensures) (c .before .if1 .left) (c .if2 .taken))
+    (λ c. search needs)
+    (λ c. search needs)
+    (λ c. refused-row _ _ _ _ _ _ _ _ _ _ (c .before .before .before .before .«open» .ensures) (c .before .before .if1 .left) (c .before .if2 .left) (c .if3 .taken))
+    (λ c κs. omega (arith, index-small _ _ _ _ _ _ _ _ (c .before .before .before .before .before .before .before .before .before .before .before .args .color) _ (c .before .before .before .before .«open» .ensures) (c .before .before .if1 .left) (c .before .if2 .left) (c .if3 .left)))
     (λ c κs.
-    let e = sym (c .before .before .before .before .before .before .before .before .before .read-chain .ensures .0) ∙ c .before .before .before .before .before .before .before .if1 .left in
-    let o = c .before .before .before .before .before .before .before .before .before .read-chain .ensures .1 e in
-    ((ready-of _ _ _ _ _ e o, c .before .before .before .before .before .before .if2 .left, omega (arith, row-there (c .before .before .before .before .before .before .before .before .before .before .before .before .before .before .args .width) (c .before .before .before .before .before .before .before .before .before .before .before .before .before .before .args .height) (c .before .before .before .before .before .before .before .before .before .before .before .before .before .before .args .y) (c .before .before .if5 .left))), (last-of _ _ _ _ _ e o, c .before .before .before .before .if3 .left)))
+    let o = c .before .before .before .before .before .before .before .«open» .ensures in
+    let z = c .before .before .before .before .before .if1 .left in
+    record {
+      source = record { valid = o .valid z; held = o .held z };
+      room = o .room z;
+      inside = rw (c .before .before .expanded-index .ensures) (index-inside _ _ _ _ _ _ _ _ (c .before .before .before .before .before .before .before .before .before .before .before .before .before .before .args .color) _ o z (c .before .before .before .before .if2 .left) (c .before .before .before .if3 .left));
+    })
     (λ c. search needs)
     (λ c. search needs)
     (λ c.
-    let e = sym (c .before .before .before .before .before .before .before .before .before .before .before .before .before .before .read-chain .ensures .0) ∙ c .before .before .before .before .before .before .before .before .before .before .before .before .if1 .left in
-    let o = c .before .before .before .before .before .before .before .before .before .before .before .before .before .before .read-chain .ensures .1 e in
-    answered _ _ _ _ _ _ _ _ _ e (c .before .before .before .before .before .before .before .before .before .before .before .if2 .left) _ o (c .before .before .before .before .before .before .before .before .before .if3 .left) (c .before .before .before .before .before .before .before .before .if4 .left) (c .before .before .before .before .before .before .before .if5 .left) _ _ _ (c .before .before .before .before .retouch-valid .ensures)))
+    let r = c .before .before .before .before .retouch-valid .ensures in
+    answered _ _ _ _ _ _ _ _ _ _ (c .before .before .before .before .before .before .before .before .before .before .before .before .«open» .ensures) (c .before .before .before .before .before .before .before .before .before .before .if1 .left) (c .before .before .before .before .before .before .before .before .before .if2 .left) (c .before .before .before .before .before .before .before .before .if3 .left) _ (c .before .before .before .before .before .before .before .expanded-index .ensures) _ _ _ (r .0) (r .1 .0) (r .1 .1)))

@@ -2,8 +2,8 @@
 use mathlib.Core.Path.{refl}
 use borrow.Author.Needs.{needs}
 use borrow.Author.Tests.{lt-ltb, le-ltb}
-use Rattle.retouch.proofs.write.write_inside.Statement.{statement}
-use Rattle.retouch.proofs.write.write_inside.Tie as tie
+use Rattle.retouch.proofs.strip.write_inside.Statement.{statement}
+use Rattle.retouch.proofs.strip.write_inside.Tie as tie
 
 pub write-inside-spec : {M : Type 1} → statement M
 write-inside-spec =

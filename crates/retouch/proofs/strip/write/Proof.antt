@@ -4,8 +4,8 @@ use Prim.Native.Nat.{_≤_}
 use native.Mathlib.Omega.{arith}
 use lib.ListN.{length}
 use Rattle.retouch.proofs.Writing.{WrittenFrom, from-none, from-more, from-all}
-use Rattle.retouch.proofs.write.write.Statement.{statement}
-use Rattle.retouch.proofs.write.write.Tie as tie
+use Rattle.retouch.proofs.strip.write.Statement.{statement}
+use Rattle.retouch.proofs.strip.write.Tie as tie
 
 abbrev Inv-loop : tie.InvT-loop
 Inv-loop strip₀ n made records k₀ strip k = WrittenFrom records k₀ n made strip₀ k strip × (k ≤ k₀) × (length strip ≡ length strip₀)

@@ -1,5 +1,6 @@
-// The strip's records replaced by those that were made.
+// A strip's records: how many there are, and those of the spots replaced by others.
 use crate::spots::Spots;
+use chain::Chain;
 use format::Pixel;
 use pixel::pixel::put_pixel;
 ghost use mathlib.Core.Path.{_≡_};
@@ -7,10 +8,17 @@ ghost use Prim.Native.Nat.{_*_, _≤_};
 ghost use lib.Dec.{ltb};
 ghost use lib.ListN.{length};
 ghost use Rattle.format.specs.Choice.{if_then_else_};
-ghost use Rattle.format.specs.Picture.{Picture, pixels, written};
 ghost use Rattle.pixel.specs.Cells.{putPixel};
-ghost use Rattle.retouch.specs.Spots.{Sound, recordsOf};
-ghost use Rattle.retouch.specs.Remade.{MadeTo, over};
+ghost use Rattle.chain.specs.Valid.{recordsIn};
+ghost use Rattle.retouch.specs.Spots.{Sound};
+ghost use Rattle.retouch.specs.Remade.{WritesMade};
+
+pub fn records_in(chain: Chain) -> usize
+    requires { ⌜ recordsIn chain ≤ 268435456 ⌝ }
+    ensures { λ r. ⌜ r ≡ recordsIn chain ⌝ }
+{
+    chain.height * chain.strip.0
+}
 
 // Record r, where it is one of the first n.
 fn write_inside(strip: &mut [u8], n: usize, r: usize, v: Pixel)
@@ -25,7 +33,7 @@ fn write_inside(strip: &mut [u8], n: usize, r: usize, v: Pixel)
 
 pub fn write(strip: &mut [u8], n: usize, spots: Spots, made: [Pixel; 5])
     requires { ⌜ (4 * n ≤ length (now strip)) × Sound spots ⌝ }
-    ensures { λ _. ⌜ ((g : Picture) → MadeTo (spots .count) g n (spots .records) made → now (strip .exit) ≡ written n (over g (recordsOf spots) (pixels (now (strip .entry)))) (now (strip .entry))) ⌝ }
+    ensures { λ _. ⌜ WritesMade n spots made (now (strip .entry)) (now (strip .exit)) ⌝ }
 {
     let records = spots.records;
     let mut k = spots.count;

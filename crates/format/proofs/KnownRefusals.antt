@@ -111,7 +111,10 @@ worked =
     is 7 ∷ 8 ∷ 21 ∷ [])
     ∷ (rebuildImage 2 1 [] [] (1 ∷ 2 ∷ 3 ∷ 4 ∷ []) is 1 ∷ 2 ∷ 3 ∷ 4 ∷ [])
     ∷ (rebuildImage 1 1 (set 0 4 green) [] (1 ∷ 2 ∷ 3 ∷ 4 ∷ []) is 1 ∷ 2 ∷ 3 ∷ 4 ∷ [])
-    -- 21: every pixel that reaches the table, up to the last, and only those of the picture
+    -- 21: an entry has all four bytes of the pixel; every pixel that reaches the table counts, up to the picture's last
+    ∷ (storeAnswer 1 1 (table 4) (1 ∷ 0 ∷ 0 ∷ 0 ∷ 0 ∷ 1 ∷ 0 ∷ 0 ∷ 0 ∷ 0 ∷ 1 ∷ 0 ∷ 0 ∷ 0 ∷ 0 ∷ 1 ∷ []) (zeros 1)
+    (zeros 1) ∷ []
+    is 21 ∷ [])
     ∷ (storeAnswer 3 2 (table 5) (reds 5) (inRed (0 ∷ 1 ∷ 2 ∷ 3 ∷ 4 ∷ 5 ∷ [])) (zeros 4)
     ∷ storeAnswer 3 2 (table 5) (reds 5) (inRed (5 ∷ 1 ∷ 2 ∷ 3 ∷ 4 ∷ 0 ∷ [])) (zeros 4)
     ∷ storeAnswer 3 2 (table 5) (reds 5) (inRed (0 ∷ 1 ∷ 2 ∷ 3 ∷ 4 ∷ 0 ∷ 5 ∷ [])) (zeros 4) ∷ []

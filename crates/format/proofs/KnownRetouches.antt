@@ -118,8 +118,11 @@ worked =
     -- 3 by 3, mode 10, the top row's middle painted: of its five spots one, in column 0, keeps its record
     (answerOver (zeros 9) ∷ [] is 411 ∷ [])
     ∷ (stripOver (zeros 9) is residues (0 ∷ 128 ∷ 128 ∷ 0 ∷ 224 ∷ 224 ∷ 0 ∷ 0 ∷ 0 ∷ []))
-    -- a record wrong before, of those right after: each spot's own bit; records that are no spots are not written
+    -- a record wrong before, of those right after: each spot's own bit, whichever its wrong byte; others are not written
     ∷ (wrongOnes is 256 ∷ 289 ∷ 290 ∷ 292 ∷ 296 ∷ 304 ∷ 256 ∷ 256 ∷ 256 ∷ [])
+    ∷ (answerOver (set 4 1 after) ∷ answerOver (set 5 1 after) ∷ answerOver (set 6 1 after) ∷ answerOver (set 7 1 after)
+    ∷ []
+    is 289 ∷ 289 ∷ 289 ∷ 289 ∷ [])
     ∷ (stripOver (set 0 7 after) is residues (7 ∷ 128 ∷ 128 ∷ 0 ∷ 224 ∷ 224 ∷ 0 ∷ 0 ∷ 0 ∷ []))
     -- spots past the last record are none, and nothing is written there
     ∷ (retouchAnswer 3 3 predictor (mode 10) (blacks 9) (zeros 13) 2 2 (red 128)

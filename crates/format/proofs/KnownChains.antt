@@ -1,4 +1,4 @@
--- Further pictures, worked by hand from document 01: chains of none, one, two and four records, and their data.
+-- Further pictures, worked out from document 01: chains of none, one, two and four records, and their data.
 use mathlib.Core.List.{List, [], _∷_, _++_, map}
 use mathlib.Core.Path.{_≡_, refl}
 use Prim.Native.Nat.{ℕ}

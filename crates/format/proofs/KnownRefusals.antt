@@ -1,4 +1,4 @@
--- Further pictures, worked by hand from document 01: refusals 1 to 8 and 21, each at its boundary, and their order.
+-- Further pictures, worked out from document 01: refusals 1 to 8 and 21, each at its boundary, and their order.
 use mathlib.Core.List.{List, [], _∷_, _++_, map}
 use mathlib.Core.Path.{_≡_, refl}
 use Prim.Native.Nat.{ℕ}

@@ -1,4 +1,4 @@
--- Further pictures, worked by hand from document 01: retouches, refusals 9 and 22, and a list of calls beside the desk.
+-- Further pictures, worked out from document 01: retouches, refusals 9 and 22, and a list of calls beside the desk.
 use mathlib.Core.List.{List, [], _∷_, _++_, map}
 use mathlib.Core.Path.{_≡_, refl}
 use Prim.Native.Nat.{ℕ, zero, suc, _+_, _*_}

@@ -1,4 +1,4 @@
--- Further pictures, worked by hand from document 01: transforms and color map. A line shows a rule or its boundary.
+-- Further pictures, worked out from document 01: transforms and color map. A line shows a rule or its boundary.
 use mathlib.Core.List.{List, [], _∷_, _++_, map}
 use mathlib.Core.Path.{_≡_, refl}
 use Prim.Native.Nat.{ℕ}

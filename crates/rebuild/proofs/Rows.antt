@@ -1,7 +1,7 @@
 -- The rows of one record: a row more from the top or from the bottom, and the record undone once all rows are rebuilt.
 use mathlib.Core.List.{List}
 use mathlib.Core.Path.{_≡_, sym, ap, _∙_}
-use Prim.Native.Nat.{ℕ, suc, _+_, _-_, _*_, _<_, _≤_}
+use Prim.Native.Nat.{ℕ, suc, _+_, _-_, _*_, _≤_}
 use native.Mathlib.Nat.{zero-mul, add-mul, one-mul}
 use native.Mathlib.Omega.{arith}
 use lib.ListN.{length}

@@ -1,11 +1,10 @@
 -- The loop over records, last record first: what is still to be done of the buffer gives the whole picture.
 use mathlib.Core.List.{List}
-use mathlib.Core.Path.{_≡_, refl, sym, ap, _∙_}
+use mathlib.Core.Path.{_≡_, sym, ap, _∙_}
 use Prim.Native.Nat.{ℕ, zero, suc, _*_, _<_, _≤_}
 use native.Mathlib.Nat.{le-refl, mul-le-mul-left}
 use native.Mathlib.Omega.{arith}
 use lib.ListN.{length}
-use Rattle.format.specs.declared.Step.{Step}
 use Rattle.format.specs.Picture.{pixels, written}
 use Rattle.format.specs.Chain.{stepAt, widthAt, count}
 use Rattle.format.specs.Refusals.{inputRefusal}

@@ -1,5 +1,4 @@
 -- `undo` meets its contract: the record is one of a valid chain, whose picture is in the buffer.
-use native.Mathlib.Omega.{arith}
 use borrow.Author.Needs.{needs}
 use Rattle.rebuild.specs.Rows.{recordUndone}
 use Rattle.rebuild.proofs.Turns.{ready}

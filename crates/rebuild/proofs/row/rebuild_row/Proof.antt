@@ -1,5 +1,4 @@
 -- `rebuild_row` meets its contract, kind by kind: the part of the data that is lent is the record's.
-use Prim.Native.Nat.{_+_, _*_, _≤_}
 use native.Mathlib.Omega.{arith}
 use borrow.Author.Needs.{needs}
 use Rattle.pixel.proofs.Blocks.{row-there}

@@ -1,20 +1,30 @@
 -- What an item after record k asks of the stage before it.
 use mathlib.Core.List.{List}
-use mathlib.Core.Path.{_≡_, subst}
+use mathlib.Core.Path.{_≡_, sym, subst}
 use Prim.Native.Nat.{ℕ, suc, _-_, _+_, _*_, _/_, _%_, _<_, _≤_}
 use native.Mathlib.Nat.{mod-lt, mul-le-mul}
 use native.Mathlib.Omega.{arith}
 use lib.ListN.{length}
+use Rattle.format.specs.Picture.{pixels}
 use Rattle.format.specs.Sizes.{Sized}
 use Rattle.format.specs.ColorTable.{packedWidth}
+use Rattle.format.proofs.Picture.{paint-at, paint-other}
 use Rattle.format.proofs.ByKind.{narrowed-table, narrowed-other}
 use Rattle.format.proofs.Stages.{narrowed-pos, narrowed-fewer}
 use Rattle.chain.specs.declared.Chain.{Chain}
 use Rattle.chain.specs.Valid.{Valid, HoldsPicture, stepsOf, widthAfter}
 use Rattle.chain.proofs.Valid.{step-sized}
 use Rattle.item.specs.Neighbors.{BlockAt}
-use Rattle.item.specs.Source.{itemsAfter}
+use Rattle.item.specs.declared.Point.{Point}
+use Rattle.item.specs.Source.{shown, itemsAfter}
 use Rattle.item.proofs.Inside.{column-inside, row-inside}
+
+-- the point's pixel is its color, and the others are as they were
+pub shown-here : (picture : List ℕ) (p : Point) (q : ℕ) → q ≡ p .index → p .color ≡ shown picture p q
+shown-here picture p q e = rw e (sym (paint-at (pixels picture) (p .index) (p .color)))
+
+pub shown-off : (picture : List ℕ) (p : Point) (q : ℕ) → (q ≡ p .index → ⊥) → pixels picture q ≡ shown picture p q
+shown-off picture p q d = sym (paint-other (pixels picture) (p .index) (p .color) q d)
 
 -- a pixel of the picture is in its buffer
 pub picture-room : (c : Chain) (k q : ℕ) (xs : List ℕ) → k ≡ 0 → HoldsPicture c xs → q < itemsAfter c k → 4 * q + 4 ≤ length xs

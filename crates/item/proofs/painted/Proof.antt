@@ -1,6 +1,7 @@
 -- `painted` meets its contract, test by test.
+use mathlib.Core.Path.{_∙_}
 use borrow.Author.Needs.{needs}
-use borrow.Author.Tests.{eq-eqb, ne-eqb}
+use Rattle.item.proofs.Before.{shown-here, shown-off}
 use Rattle.item.proofs.painted.Statement.{statement}
 use Rattle.item.proofs.painted.Tie as tie
 
@@ -9,5 +10,5 @@ painted-spec =
     tie.close
     (tie.spec
     (λ c κs. search needs)
-    (λ c. rw (eq-eqb _ _ (c .before .if1 .taken)))
-    (λ c. rw (ne-eqb _ _ (c .before .if1 .left)) (c .pixel-at .ensures)))
+    (λ c. shown-here (c .before .before .before .before .args .picture .now) (c .before .before .before .before .args .point) _ (c .before .if1 .taken))
+    (λ c. c .pixel-at .ensures ∙ shown-off (c .before .before .before .before .args .picture .now) (c .before .before .before .before .args .point) _ (c .before .if1 .left)))

@@ -12,7 +12,8 @@ use Rattle.format.specs.Choice.{if_then_else_}
 use Rattle.format.specs.ColorTable.{perPixel, range, digits}
 use Rattle.pixel.specs.Stride.{Places}
 use Rattle.pixel.proofs.Places.{places-1, places-2, places-4, places-8}
-use Rattle.color_table.specs.Pack.{Row, Few}
+use Rattle.color_table.specs.declared.each.Packing.{Packing}
+use Rattle.color_table.specs.Pack.{Row, Few, Packs}
 
 -- n indices to the base u go into a byte
 pub record Base (size n u : ℕ) : Type 0 where
@@ -39,24 +40,8 @@ base-of size n u l p q =
     go false false true x o y z = record { fits = z refl; two = lit< tt; most = lit< tt; some = lit< tt; few = lit< tt; whole = refl; group = refl; places = places-2; pairs = λ q. omega arith; ones = λ x h. (omega arith, omega arith) }
     go false false false x o y z = record { fits = l; two = lit< tt; most = lit< tt; some = lit< tt; few = lit< tt; whole = refl; group = refl; places = places-1; pairs = λ q. omega arith; ones = λ x h. (omega arith, omega arith) }
 
--- how many indices a record holds, by the table's size
-
-module _ (size : ℕ) where
-  pub eight-places : size ≤ 2 → 8 ≡ perPixel size
-  unfolding perPixel
-  eight-places l = rw (le-leb size 2 l)
-
-  pub four-places : 2 < size → size ≤ 4 → 4 ≡ perPixel size
-  unfolding perPixel
-  four-places a l = rw (lt-leb size 2 a, le-leb size 4 l)
-
-  pub two-places : 4 < size → size ≤ 16 → 2 ≡ perPixel size
-  unfolding perPixel
-  two-places a l = let b : 2 < size = omega arith in rw (lt-leb size 2 b, lt-leb size 4 a, le-leb size 16 l)
-
-  pub one-place : 16 < size → 1 ≡ perPixel size
-  unfolding perPixel
-  one-place a = let b : 2 < size = omega arith in let c : 4 < size = omega arith in rw (lt-leb size 2 b, lt-leb size 4 c, lt-leb size 16 a)
+pub base-in : (p : Packing) (entries hints row : List ℕ) → Packs p entries hints row → Base (p .size) (p .n) (p .range)
+base-in p entries hints row h = base-of (p .size) (p .n) (p .range) (h .table .most) (h .row .places) (h .row .base)
 
 -- a row at the number that n is
 pub row-at : (m size w n u : ℕ) (entries row : List ℕ) → n ≡ m → Row size w n u entries row → Row size w m (range m) entries row

@@ -9,8 +9,11 @@ use Rattle.format.specs.declared.Pixel.{Pixel}
 use Rattle.format.specs.Choice.{if_then_else_}
 use Rattle.format.specs.Pixel.{pixel, equal}
 use Rattle.format.specs.Picture.{Picture, byteAt, pixels}
-use Rattle.format.specs.ColorTable.{perPixel, range, indexOf, hasEntry, haveEntries, digits}
+use Rattle.format.specs.ColorTable.{perPixel, range, indexOf, hasEntry, haveEntries, digits, packed}
 use Rattle.pixel.specs.Cells.{pixelCells, run, given}
+use Rattle.pixel.specs.Word.{unword}
+use Rattle.color_table.specs.declared.each.Packing.{Packing}
+use Rattle.color_table.specs.declared.runs.Last.{Last}
 
 -- every slot holds an index that is the lowest one of its entry
 pub record Hints (size : ℕ) (e : Picture) (hints : List ℕ) : Type 0 where
@@ -52,13 +55,35 @@ pub record Row (size w n u : ℕ) (entries row : List ℕ) : Type 0 where
   pub places : n ≡ perPixel size
   pub base : u ≡ range n
 
+-- a table with its hints, and a row to be packed by it
+pub record Packs (p : Packing) (entries hints xs : List ℕ) : Type 0 where
+  pub table : Table (p .size) entries hints
+  pub row : Row (p .size) (p .width) (p .n) (p .range) entries xs
+
+-- ys is xs with m records of a row of w pixels there, from record j on
+abbrev pub Records : ℕ → ℕ → List ℕ → List ℕ → ℕ → ℕ → List ℕ → List ℕ → Type 0
+Records w size entries row j m xs ys = ys ≡ run pixelCells (given (packed w size (pixels entries) (pixels row))) j m xs
+
+-- the records of the groups of sixteen pixels from g up to r
+abbrev pub GroupsOf : Packing → List ℕ → List ℕ → ℕ → ℕ → List ℕ → List ℕ → Type 0
+GroupsOf p entries row g r xs ys =
+    Records (p .width) (p .size) entries row (g * (16 / p .n)) (r * (16 / p .n) - g * (16 / p .n)) xs ys
+
 -- the index of column a + k of a row f; 0 past its end
 unfoldable pub rowIndices : ℕ → ℕ → Picture → Picture → ℕ → ℕ → ℕ
 rowIndices w size e f a k = if ltb (a + k) w then indexOf size e (f (a + k)) else 0
 
+-- v is the record whose indices start at column a of a row of w pixels
+abbrev pub RecordFrom : ℕ → ℕ → ℕ → ℕ → List ℕ → List ℕ → ℕ → ℕ → Type 0
+RecordFrom size w n u entries row a v = unword v ≡ pixel 0 (digits u n (rowIndices w size (pixels entries) (pixels row) a)) 0 255
+
 -- the record of n pixels v
 unfoldable pub uniform : ℕ → ℕ → ℕ → Picture → Pixel → Pixel
 uniform u n size e v = pixel 0 (digits u n (λ k. indexOf size e v)) 0 255
+
+-- the last pixel has its record
+abbrev pub LastOf : Packing → List ℕ → Last → Type 0
+LastOf p entries last = unword (last .packed) ≡ uniform (p .range) (p .n) (p .size) (pixels entries) (unword (last .word))
 
 -- v at every index
 unfoldable pub plain : Pixel → Picture

@@ -8,10 +8,17 @@ ghost use Prim.Native.Nat.{_+_, _-_, _*_, _<_, _≤_};
 ghost use lib.ListN.{length};
 ghost use Rattle.format.specs.Pixel.{pixel};
 ghost use Rattle.format.specs.Picture.{pixels};
-ghost use Rattle.format.specs.ColorTable.{packedWidth, digits, packed as packedOf};
-ghost use Rattle.pixel.specs.Cells.{pixelCells, run, given};
+ghost use Rattle.format.specs.ColorTable.{packedWidth};
 ghost use Rattle.pixel.specs.Word.{unword};
-ghost use Rattle.color_table.specs.Pack.{Table, Row, rowIndices};
+ghost use Rattle.color_table.specs.Pack.{Packs, Records, RecordFrom, rowIndices};
+
+// How a row of `width` pixels is packed by a table of `size` entries: n indices to a record, each below `range`.
+pub struct Packing {
+    pub width: usize,
+    pub size: usize,
+    pub n: usize,
+    pub range: usize,
+}
 
 pub fn record_of(b: u32) -> u32
     requires { ⌜ b < 256 ⌝ }
@@ -21,52 +28,32 @@ pub fn record_of(b: u32) -> u32
 }
 
 // The index of column a + k of a row; 0 past its end.
-fn index_at(
-    row: &[u8],
-    width: usize,
-    a: usize,
-    k: usize,
-    n: usize,
-    range: usize,
-    entries: &[u8],
-    size: usize,
-    hints: &[u8],
-) -> usize
-    requires { ⌜ Table size (now entries) (now hints) ⌝ }
-    requires { ⌜ Row size width n range (now entries) (now row) ⌝ }
+fn index_at(row: &[u8], a: usize, k: usize, entries: &[u8], hints: &[u8], p: Packing) -> usize
+    requires { ⌜ Packs p (now entries) (now hints) (now row) ⌝ }
     requires { ⌜ a + k ≤ 1000000 ⌝ }
-    ensures { λ r. ⌜ (r ≡ rowIndices width size (pixels (now (entries .entry))) (pixels (now (row .entry))) a k) × (r < range) ⌝ }
+    ensures { λ r. ⌜ (r ≡ rowIndices (p .width) (p .size) (pixels (now (entries .entry))) (pixels (now (row .entry))) a k) × (r < p .range) ⌝ }
 {
     let x = a + k;
-    if x < width {
-        find(entries, size, hints, word_at(row, x))
+    if x < p.width {
+        find(entries, p.size, hints, word_at(row, x))
     } else {
         0
     }
 }
 
-// The record whose indices start at column a, lowest first. A row has at most 16384 columns: the bound is any that keeps sums in range.
-fn pack_record(
-    row: &[u8],
-    width: usize,
-    a: usize,
-    n: usize,
-    range: usize,
-    entries: &[u8],
-    size: usize,
-    hints: &[u8],
-) -> u32
-    requires { ⌜ Table size (now entries) (now hints) ⌝ }
-    requires { ⌜ Row size width n range (now entries) (now row) ⌝ }
+// The record whose indices start at column a, lowest first. A row has at most 16384 columns: the bound is any that keeps
+// sums in range.
+fn pack_record(row: &[u8], a: usize, entries: &[u8], hints: &[u8], p: Packing) -> u32
+    requires { ⌜ Packs p (now entries) (now hints) (now row) ⌝ }
     requires { ⌜ a ≤ 900000 ⌝ }
-    ensures { λ r. ⌜ unword r ≡ pixel 0 (digits range n (rowIndices width size (pixels (now (entries .entry))) (pixels (now (row .entry))) a)) 0 255 ⌝ }
+    ensures { λ r. ⌜ RecordFrom (p .size) (p .width) (p .n) (p .range) (now (entries .entry)) (now (row .entry)) a r ⌝ }
 {
     let mut b = 0;
     let mut weight = 1;
     let mut k = 0;
-    while k < n {
-        b = b + weight * index_at(row, width, a, k, n, range, entries, size, hints);
-        weight = weight * range;
+    while k < p.n {
+        b = b + weight * index_at(row, a, k, entries, hints, p);
+        weight = weight * p.range;
         k += 1;
     }
     record_of(b as u32)
@@ -75,28 +62,20 @@ fn pack_record(
 // Records `from` up to `to`.
 pub fn pack_each(
     row: &[u8],
-    width: usize,
     out: &mut [u8],
     from: usize,
     to: usize,
-    n: usize,
-    range: usize,
     entries: &[u8],
-    size: usize,
     hints: &[u8],
+    p: Packing,
 )
-    requires { ⌜ Table size (now entries) (now hints) ⌝ }
-    requires { ⌜ Row size width n range (now entries) (now row) ⌝ }
-    requires { ⌜ (from ≤ to) × (to ≤ packedWidth size width) × (4 * to ≤ length (now out)) ⌝ }
-    ensures { λ _. ⌜ now (out .exit) ≡ run pixelCells (given (packedOf width size (pixels (now (entries .entry))) (pixels (now (row .entry))))) from (to - from) (now (out .entry)) ⌝ }
+    requires { ⌜ Packs p (now entries) (now hints) (now row) ⌝ }
+    requires { ⌜ (from ≤ to) × (to ≤ packedWidth (p .size) (p .width)) × (4 * to ≤ length (now out)) ⌝ }
+    ensures { λ _. ⌜ Records (p .width) (p .size) (now (entries .entry)) (now (row .entry)) from (to - from) (now (out .entry)) (now (out .exit)) ⌝ }
 {
     let mut j = from;
     while j < to {
-        put_word(
-            out,
-            j,
-            pack_record(row, width, j * n, n, range, entries, size, hints),
-        );
+        put_word(out, j, pack_record(row, j * p.n, entries, hints, p));
         j += 1;
     }
 }

@@ -1,4 +1,5 @@
-// Storing where a table has at most four entries: indices by comparing with each entry, with no branch, four records at a time, so that they are compared at once.
+// Storing where a table has at most four entries: indices by comparing with each entry, with no branch, four records at a
+// time, so that they are compared at once.
 use crate::each::record_of;
 use crate::find::same;
 use crate::four::put_four;
@@ -7,12 +8,10 @@ ghost use mathlib.Core.Path.{_≡_};
 ghost use Prim.Native.Nat.{_+_, _*_, _<_, _≤_};
 ghost use lib.ListN.{length};
 ghost use Rattle.format.specs.Choice.{if_then_else_};
-ghost use Rattle.format.specs.Pixel.{pixel};
 ghost use Rattle.format.specs.Picture.{pixels};
-ghost use Rattle.format.specs.ColorTable.{packedWidth, indexOf, digits, packed as packedOf};
-ghost use Rattle.pixel.specs.Cells.{pixelCells, run, given};
+ghost use Rattle.format.specs.ColorTable.{packedWidth, indexOf};
 ghost use Rattle.pixel.specs.Word.{unword};
-ghost use Rattle.color_table.specs.Pack.{Row, Few, rowIndices};
+ghost use Rattle.color_table.specs.Pack.{Row, Few, Records, RecordFrom};
 
 fn unless(found: bool) -> u32
     ensures { λ r. ⌜ r ≡ (if found then 0 else 1) ⌝ }
@@ -50,7 +49,7 @@ fn flat_record(
     requires { ⌜ Few size range (now entries) ⌝ }
     requires { ⌜ Row size width n range (now entries) (now row) ⌝ }
     requires { ⌜ a + n ≤ width ⌝ }
-    ensures { λ r. ⌜ unword r ≡ pixel 0 (digits range n (rowIndices width size (pixels (now (entries .entry))) (pixels (now (row .entry))) a)) 0 255 ⌝ }
+    ensures { λ r. ⌜ RecordFrom size width n range (now (entries .entry)) (now (row .entry)) a r ⌝ }
 {
     let mut b = 0;
     let mut weight = 1;
@@ -68,7 +67,7 @@ pub fn put_pairs(row: &[u8], width: usize, out: &mut [u8], j: usize, entries: &[
     requires { ⌜ Few size 4 (now entries) ⌝ }
     requires { ⌜ Row size width 4 4 (now entries) (now row) ⌝ }
     requires { ⌜ (4 * (j + 4) ≤ width) × (4 * (j + 4) ≤ length (now out)) ⌝ }
-    ensures { λ _. ⌜ now (out .exit) ≡ run pixelCells (given (packedOf width size (pixels (now (entries .entry))) (pixels (now (row .entry))))) j 4 (now (out .entry)) ⌝ }
+    ensures { λ _. ⌜ Records width size (now (entries .entry)) (now (row .entry)) j 4 (now (out .entry)) (now (out .exit)) ⌝ }
 {
     put_four(
         out,
@@ -85,7 +84,7 @@ fn put_bits(row: &[u8], width: usize, out: &mut [u8], j: usize, entries: &[u8], 
     requires { ⌜ Few size 2 (now entries) ⌝ }
     requires { ⌜ Row size width 8 2 (now entries) (now row) ⌝ }
     requires { ⌜ (8 * (j + 4) ≤ width) × (4 * (j + 4) ≤ length (now out)) ⌝ }
-    ensures { λ _. ⌜ now (out .exit) ≡ run pixelCells (given (packedOf width size (pixels (now (entries .entry))) (pixels (now (row .entry))))) j 4 (now (out .entry)) ⌝ }
+    ensures { λ _. ⌜ Records width size (now (entries .entry)) (now (row .entry)) j 4 (now (out .entry)) (now (out .exit)) ⌝ }
 {
     put_four(
         out,
@@ -102,7 +101,7 @@ pub fn pack_bits(row: &[u8], width: usize, out: &mut [u8], entries: &[u8], size:
     requires { ⌜ Few size 2 (now entries) ⌝ }
     requires { ⌜ Row size width 8 2 (now entries) (now row) ⌝ }
     requires { ⌜ 4 * packedWidth size width ≤ length (now out) ⌝ }
-    ensures { λ r. ⌜ (r ≤ packedWidth size width) × (now (out .exit) ≡ run pixelCells (given (packedOf width size (pixels (now (entries .entry))) (pixels (now (row .entry))))) 0 r (now (out .entry))) ⌝ }
+    ensures { λ r. ⌜ (r ≤ packedWidth size width) × Records width size (now (entries .entry)) (now (row .entry)) 0 r (now (out .entry)) (now (out .exit)) ⌝ }
 {
     let to = width / 32 * 4;
     let mut j = 0;

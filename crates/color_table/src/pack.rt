@@ -1,62 +1,44 @@
-// Storing: a row of accepted pixels to indices, packed into records of a strip.
+// Storing: a row of pixels that have entries to indices, packed into records of a strip.
+use crate::each::Packing;
 use crate::each::pack_each;
 use crate::flat::pack_bits;
 use crate::runs::pack_runs;
+use crate::table::index_range;
 use pixel::stride::Expanded;
+use pixel::stride::per_pixel;
 ghost use mathlib.Core.Path.{_≡_};
 ghost use mathlib.Core.Bool.{true};
 ghost use Prim.Native.Nat.{_*_, _≤_};
 ghost use lib.ListN.{length};
 ghost use Rattle.format.specs.Picture.{pixels, written};
 ghost use Rattle.format.specs.ColorTable.{packedWidth, haveEntries, packed as packedOf};
-ghost use Rattle.pixel.specs.Cells.{pixelCells, run, given};
-ghost use Rattle.color_table.specs.Pack.{Hints, Table, Row};
+ghost use Rattle.color_table.specs.Pack.{Hints, Packs, Records};
 
 // The front of a row, by comparing, and how many records it is.
-fn pack_front(
-    row: &[u8],
-    width: usize,
-    out: &mut [u8],
-    n: usize,
-    range: usize,
-    entries: &[u8],
-    size: usize,
-    hints: &[u8],
-) -> usize
-    requires { ⌜ Table size (now entries) (now hints) ⌝ }
-    requires { ⌜ Row size width n range (now entries) (now row) ⌝ }
-    requires { ⌜ 4 * packedWidth size width ≤ length (now out) ⌝ }
-    ensures { λ r. ⌜ (r ≤ packedWidth size width) × (now (out .exit) ≡ run pixelCells (given (packedOf width size (pixels (now (entries .entry))) (pixels (now (row .entry))))) 0 r (now (out .entry))) ⌝ }
+fn pack_front(row: &[u8], out: &mut [u8], entries: &[u8], hints: &[u8], p: Packing) -> usize
+    requires { ⌜ Packs p (now entries) (now hints) (now row) ⌝ }
+    requires { ⌜ 4 * packedWidth (p .size) (p .width) ≤ length (now out) ⌝ }
+    ensures { λ r. ⌜ (r ≤ packedWidth (p .size) (p .width)) × Records (p .width) (p .size) (now (entries .entry)) (now (row .entry)) 0 r (now (out .entry)) (now (out .exit)) ⌝ }
 {
-    if n == 8 {
-        pack_bits(row, width, out, entries, size)
+    if p.n == 8 {
+        pack_bits(row, p.width, out, entries, p.size)
     } else {
-        pack_runs(row, width, out, n, range, entries, size, hints)
+        pack_runs(row, out, entries, hints, p)
     }
 }
 
 // A row: its front, and the records that are left.
-fn pack_by(
-    row: &[u8],
-    width: usize,
-    out: &mut [u8],
-    n: usize,
-    range: usize,
-    entries: &[u8],
-    size: usize,
-    hints: &[u8],
-)
-    requires { ⌜ Table size (now entries) (now hints) ⌝ }
-    requires { ⌜ Row size width n range (now entries) (now row) ⌝ }
-    requires { ⌜ 4 * packedWidth size width ≤ length (now out) ⌝ }
-    ensures { λ _. ⌜ now (out .exit) ≡ written (packedWidth size width) (packedOf width size (pixels (now (entries .entry))) (pixels (now (row .entry)))) (now (out .entry)) ⌝ }
+fn pack_by(row: &[u8], out: &mut [u8], entries: &[u8], hints: &[u8], p: Packing)
+    requires { ⌜ Packs p (now entries) (now hints) (now row) ⌝ }
+    requires { ⌜ 4 * packedWidth (p .size) (p .width) ≤ length (now out) ⌝ }
+    ensures { λ _. ⌜ now (out .exit) ≡ written (packedWidth (p .size) (p .width)) (packedOf (p .width) (p .size) (pixels (now (entries .entry))) (pixels (now (row .entry)))) (now (out .entry)) ⌝ }
 {
-    let from = pack_front(row, width, out, n, range, entries, size, hints);
-    let to = (width + n - 1) / n;
-    pack_each(row, width, out, from, to, n, range, entries, size, hints);
+    let from = pack_front(row, out, entries, hints, p);
+    let to = (p.width + p.n - 1) / p.n;
+    pack_each(row, out, from, to, entries, hints, p);
 }
 
-// A row of accepted pixels, packed at the front of `out`.
+// A row of pixels that have entries, packed at the front of `out`.
 pub fn pack_row(
     row: &[u8],
     expanded: Expanded,
@@ -70,14 +52,11 @@ pub fn pack_row(
     requires { ⌜ haveEntries size (pixels (now entries)) (expanded .0) (pixels (now row)) ≡ true ⌝ }
     ensures { λ _. ⌜ now (out .exit) ≡ written (packedWidth size (expanded .0)) (packedOf (expanded .0) size (pixels (now (entries .entry))) (pixels (now (row .entry)))) (now (out .entry)) ⌝ }
 {
-    let width = expanded.0;
-    if size <= 2 {
-        pack_by(row, width, out, 8, 2, entries, size, hints);
-    } else if size <= 4 {
-        pack_by(row, width, out, 4, 4, entries, size, hints);
-    } else if size <= 16 {
-        pack_by(row, width, out, 2, 16, entries, size, hints);
-    } else {
-        pack_by(row, width, out, 1, 256, entries, size, hints);
-    }
+    let p = Packing {
+        width: expanded.0,
+        size: size,
+        n: per_pixel(size),
+        range: index_range(size),
+    };
+    pack_by(row, out, entries, hints, p);
 }

@@ -1,5 +1,6 @@
 // Storing by runs: sixteen pixels at a time are compared with the one before them, and packed one by one only where they differ.
 use crate::accept::eight_of;
+use crate::each::Packing;
 use crate::each::pack_each;
 use crate::each::record_of;
 use crate::find::find;
@@ -7,14 +8,14 @@ use crate::flat::put_pairs;
 use pixel::word::put_word;
 use pixel::word::word_at;
 ghost use mathlib.Core.Path.{_≡_};
-ghost use Prim.Native.Nat.{_+_, _-_, _*_, _/_, _<_, _≤_};
+ghost use Prim.Native.Nat.{_+_, _*_, _/_, _<_, _≤_};
 ghost use lib.ListN.{length};
 ghost use Rattle.format.specs.Picture.{pixels};
-ghost use Rattle.format.specs.ColorTable.{packedWidth, packed as packedOf};
+ghost use Rattle.format.specs.ColorTable.{packedWidth};
 ghost use Rattle.pixel.specs.Cells.{pixelCells, run, given};
 ghost use Rattle.pixel.specs.Stride.{Places};
 ghost use Rattle.pixel.specs.Word.{unword};
-ghost use Rattle.color_table.specs.Pack.{Table, Row, uniform, plain, Filled};
+ghost use Rattle.color_table.specs.Pack.{Packs, Records, GroupsOf, LastOf, plain, Filled};
 
 // One record m times.
 fn fill(out: &mut [u8], j: usize, m: usize, w: u32)
@@ -36,28 +37,17 @@ struct Last {
 }
 
 // Column x as the last pixel.
-fn last_of(
-    row: &[u8],
-    width: usize,
-    groups: usize,
-    x: usize,
-    n: usize,
-    range: usize,
-    entries: &[u8],
-    size: usize,
-    hints: &[u8],
-) -> Last
-    requires { ⌜ Table size (now entries) (now hints) ⌝ }
-    requires { ⌜ Row size width n range (now entries) (now row) ⌝ }
-    requires { ⌜ x < width ⌝ }
-    ensures { λ r. ⌜ (r .groups ≡ groups) × (unword (r .packed) ≡ uniform range n size (pixels (now (entries .entry))) (unword (r .word))) ⌝ }
+fn last_of(row: &[u8], groups: usize, x: usize, entries: &[u8], hints: &[u8], p: Packing) -> Last
+    requires { ⌜ Packs p (now entries) (now hints) (now row) ⌝ }
+    requires { ⌜ x < p .width ⌝ }
+    ensures { λ r. ⌜ (r .groups ≡ groups) × LastOf p (now (entries .entry)) r ⌝ }
 {
     let w = word_at(row, x);
-    let i = find(entries, size, hints, w);
+    let i = find(entries, p.size, hints, w);
     Last {
         groups: groups,
         word: w,
-        packed: record_of((i * (255 / (range - 1))) as u32),
+        packed: record_of((i * (255 / (p.range - 1))) as u32),
     }
 }
 
@@ -98,51 +88,36 @@ fn fill_run(row: &[u8], out: &mut [u8], groups: usize, n: usize, last: Last) -> 
 }
 
 // The records of group g. Those of two bits an index are compared at once, the others looked up.
-fn pack_group(
-    row: &[u8],
-    width: usize,
-    out: &mut [u8],
-    g: usize,
-    n: usize,
-    range: usize,
-    entries: &[u8],
-    size: usize,
-    hints: &[u8],
-)
-    requires { ⌜ Table size (now entries) (now hints) ⌝ }
-    requires { ⌜ Row size width n range (now entries) (now row) ⌝ }
-    requires { ⌜ (16 * (g + 1) ≤ width) × (4 * ((g + 1) * (16 / n)) ≤ length (now out)) ⌝ }
-    ensures { λ _. ⌜ now (out .exit) ≡ run pixelCells (given (packedOf width size (pixels (now (entries .entry))) (pixels (now (row .entry))))) (g * (16 / n)) (16 / n) (now (out .entry)) ⌝ }
+fn pack_group(row: &[u8], out: &mut [u8], g: usize, entries: &[u8], hints: &[u8], p: Packing)
+    requires { ⌜ Packs p (now entries) (now hints) (now row) ⌝ }
+    requires { ⌜ (16 * (g + 1) ≤ p .width) × (4 * ((g + 1) * (16 / p .n)) ≤ length (now out)) ⌝ }
+    ensures { λ _. ⌜ Records (p .width) (p .size) (now (entries .entry)) (now (row .entry)) (g * (16 / p .n)) (16 / p .n) (now (out .entry)) (now (out .exit)) ⌝ }
 {
-    if n == 4 {
-        put_pairs(row, width, out, g * 4, entries, size);
+    if p.n == 4 {
+        put_pairs(row, p.width, out, g * 4, entries, p.size);
     } else {
-        let m = 16 / n;
+        let m = 16 / p.n;
         let j = g * m;
-        pack_each(row, width, out, j, j + m, n, range, entries, size, hints);
+        pack_each(row, out, j, j + m, entries, hints, p);
     }
 }
 
 // The groups that are the last pixel again, and the one after them.
 fn pack_run(
     row: &[u8],
-    width: usize,
     out: &mut [u8],
     groups: usize,
-    n: usize,
-    range: usize,
     last: Last,
     entries: &[u8],
-    size: usize,
     hints: &[u8],
+    p: Packing,
 ) -> Last
-    requires { ⌜ Table size (now entries) (now hints) ⌝ }
-    requires { ⌜ Row size width n range (now entries) (now row) ⌝ }
-    requires { ⌜ (last .groups < groups) × (16 * groups ≤ width) × (4 * (groups * (16 / n)) ≤ length (now out)) ⌝ }
-    requires { ⌜ unword (last .packed) ≡ uniform range n size (pixels (now entries)) (unword (last .word)) ⌝ }
-    ensures { λ r. ⌜ (last .groups < r .groups) × (r .groups ≤ groups) × (unword (r .packed) ≡ uniform range n size (pixels (now (entries .entry))) (unword (r .word))) × (now (out .exit) ≡ run pixelCells (given (packedOf width size (pixels (now (entries .entry))) (pixels (now (row .entry))))) (last .groups * (16 / n)) (r .groups * (16 / n) - last .groups * (16 / n)) (now (out .entry))) ⌝ }
+    requires { ⌜ Packs p (now entries) (now hints) (now row) ⌝ }
+    requires { ⌜ (last .groups < groups) × (16 * groups ≤ p .width) × (4 * (groups * (16 / p .n)) ≤ length (now out)) ⌝ }
+    requires { ⌜ LastOf p (now entries) last ⌝ }
+    ensures { λ r. ⌜ (last .groups < r .groups) × (r .groups ≤ groups) × LastOf p (now (entries .entry)) r × GroupsOf p (now (entries .entry)) (now (row .entry)) (last .groups) (r .groups) (now (out .entry)) (now (out .exit)) ⌝ }
 {
-    let g = fill_run(row, out, groups, n, last);
+    let g = fill_run(row, out, groups, p.n, last);
     if groups <= g {
         return Last {
             groups: g,
@@ -150,51 +125,20 @@ fn pack_run(
             packed: last.packed,
         };
     }
-    pack_group(row, width, out, g, n, range, entries, size, hints);
-    last_of(
-        row,
-        width,
-        g + 1,
-        16 * g + 15,
-        n,
-        range,
-        entries,
-        size,
-        hints,
-    )
+    pack_group(row, out, g, entries, hints, p);
+    last_of(row, g + 1, 16 * g + 15, entries, hints, p)
 }
 
 // The row's groups, and how many records they are.
-pub fn pack_runs(
-    row: &[u8],
-    width: usize,
-    out: &mut [u8],
-    n: usize,
-    range: usize,
-    entries: &[u8],
-    size: usize,
-    hints: &[u8],
-) -> usize
-    requires { ⌜ Table size (now entries) (now hints) ⌝ }
-    requires { ⌜ Row size width n range (now entries) (now row) ⌝ }
-    requires { ⌜ (4 * packedWidth size width ≤ length (now out)) ⌝ }
-    ensures { λ r. ⌜ (r ≤ packedWidth size width) × (now (out .exit) ≡ run pixelCells (given (packedOf width size (pixels (now (entries .entry))) (pixels (now (row .entry))))) 0 r (now (out .entry))) ⌝ }
+pub fn pack_runs(row: &[u8], out: &mut [u8], entries: &[u8], hints: &[u8], p: Packing) -> usize
+    requires { ⌜ Packs p (now entries) (now hints) (now row) ⌝ }
+    requires { ⌜ 4 * packedWidth (p .size) (p .width) ≤ length (now out) ⌝ }
+    ensures { λ r. ⌜ (r ≤ packedWidth (p .size) (p .width)) × Records (p .width) (p .size) (now (entries .entry)) (now (row .entry)) 0 r (now (out .entry)) (now (out .exit)) ⌝ }
 {
-    let groups = width / 16;
-    let mut last = last_of(row, width, 0, 0, n, range, entries, size, hints);
+    let groups = p.width / 16;
+    let mut last = last_of(row, 0, 0, entries, hints, p);
     while last.groups < groups {
-        last = pack_run(
-            row,
-            width,
-            out,
-            groups,
-            n,
-            range,
-            last,
-            entries,
-            size,
-            hints,
-        );
+        last = pack_run(row, out, groups, last, entries, hints, p);
     }
-    groups * (16 / n)
+    groups * (16 / p.n)
 }

@@ -2,7 +2,7 @@
 use native.Mathlib.Omega.{arith}
 use borrow.Author.Needs.{needs}
 use Rattle.color_table.proofs.Index.{row-inside, row-beyond}
-use Rattle.color_table.proofs.Digits.{base-of}
+use Rattle.color_table.proofs.Digits.{base-in}
 use Rattle.color_table.proofs.each.index_at.Statement.{statement}
 use Rattle.color_table.proofs.each.index_at.Tie as tie
 
@@ -14,13 +14,13 @@ index-at-spec =
     (λ c κs. search needs)
     (λ c κs. search needs)
     (λ c.
-    let s = c .before .before .before .before .before .before in
-    let row = s .pre .1 .0 in
-    let base = base-of _ _ _ (s .pre .0 .most) (row .places) (row .base) in
-    let r = row-inside _ _ _ (s .args .width) (s .args .a) (s .args .k) _ _ (row .taken) (c .before .word-at .ensures) (c .find .ensures) (omega arith) in
+    let s = c .before .before .before .before .before .before .before in
+    let row = s .pre .0 .row in
+    let base = base-in _ _ _ _ (s .pre .0) in
+    let r = row-inside _ _ _ (s .args .p .width) (s .args .a) (s .args .k) _ _ (row .taken) (c .before .word-at .ensures) (c .find .ensures) (omega arith) in
     (r .0, omega arith))
     (λ c.
-    let s = c .before .before .before .before in
-    let row = s .pre .1 .0 in
-    let base = base-of _ _ _ (s .pre .0 .most) (row .places) (row .base) in
+    let s = c .before .before .before .before .before in
+    let row = s .pre .0 .row in
+    let base = base-in _ _ _ _ (s .pre .0) in
     (row-beyond _ _ _ _ _ _ (omega arith), omega arith)))

@@ -7,16 +7,16 @@ use Rattle.format.specs.Pixel.{pixel}
 use Rattle.format.specs.Picture.{pixels}
 use Rattle.format.specs.ColorTable.{digits}
 use Rattle.color_table.specs.Pack.{rowIndices}
-use Rattle.color_table.proofs.Digits.{Base, base-of, digits-none, digits-more, weight-more, weight-small, small-more, small-product}
+use Rattle.color_table.proofs.Digits.{Base, base-in, digits-none, digits-more, weight-more, weight-small, small-more, small-product}
 use Rattle.color_table.proofs.each.pack_record.Statement.{statement}
 use Rattle.color_table.proofs.each.pack_record.Tie as tie
 
 abbrev Inv-loop : tie.InvT-loop
-Inv-loop row width a n range entries size hints b₀ weight₀ k₀ b weight k =
-    (k ≤ n) × (b ≡ digits range k (rowIndices width size (pixels entries) (pixels row) a)) × (weight ≡ range ^ k) × (b < weight) × (weight ≤ 256) × Base size n range
+Inv-loop row a entries hints p b₀ weight₀ k₀ b weight k =
+    (k ≤ p .n) × (b ≡ digits (p .range) k (rowIndices (p .width) (p .size) (pixels entries) (pixels row) a)) × (weight ≡ p .range ^ k) × (b < weight) × (weight ≤ 256) × Base (p .size) (p .n) (p .range)
 
 abbrev μ-loop : tie.MeasureT-loop
-μ-loop row width a n range entries size hints b₀ weight₀ k₀ b weight k = n - k
+μ-loop row a entries hints p b₀ weight₀ k₀ b weight k = p .n - k
 
 pub pack-record-spec : {M : Type 1} → statement M
 pack-record-spec =
@@ -26,28 +26,28 @@ pack-record-spec =
     μ-loop
     (λ c.
     let s = c .before .before .before in
-    let row = s .pre .1 .0 in
-    (omega arith, digits-none _ _, sym (pow-zero _), omega arith, omega arith, base-of _ _ _ (s .pre .0 .most) (row .places) (row .base)))
-    (λ c κs. let s = c .before .before .before .before .before in (s .pre .0, (s .pre .1 .0, omega arith)))
-    (λ c. let l = c .before .before .loop in omega (arith, small-product (l .weight) (c .index-at .result) (l .inv .4) (omega arith)))
-    (λ c. let l = c .before .before .loop in omega (arith, small-product (l .weight) (c .index-at .result) (l .inv .4) (omega arith)))
-    (λ c. let l = c .before .before .loop in omega (arith, small-product (l .weight) (c .before .before .before .before .before .before .args .range) (l .inv .4) (l .inv .5 .most)))
+    let row = s .pre .0 .row in
+    (omega arith, digits-none _ _, sym (pow-zero _), omega arith, omega arith, base-in _ _ _ _ (s .pre .0)))
+    (λ c κs. let s = c .before .before .before .before .before .before in (s .pre .0, omega arith))
+    (λ c. let l = c .before .before .before .loop in omega (arith, small-product (l .weight) (c .index-at .result) (l .inv .4) (omega arith)))
+    (λ c. let l = c .before .before .before .loop in omega (arith, small-product (l .weight) (c .index-at .result) (l .inv .4) (omega arith)))
+    (λ c. let l = c .before .before .before .before .loop in omega (arith, small-product (l .weight) (c .before .before .before .before .before .before .before .before .args .p .range) (l .inv .4) (l .inv .5 .most)))
     (λ c. omega arith)
     (λ c. omega arith)
     (λ c.
-    let l = c .before .before .loop in
+    let l = c .before .before .before .before .loop in
     let base = l .inv .5 in
     let w = weight-more _ _ _ (l .inv .2) in (
       omega arith,
-      digits-more _ _ _ _ _ _ (l .inv .1) (l .inv .2) (c .index-at .ensures .0),
+      digits-more _ _ _ _ _ _ (l .inv .1) (l .inv .2) (c .before .index-at .ensures .0),
       w,
-      small-more _ _ _ _ (l .inv .3) (c .index-at .ensures .1),
+      small-more _ _ _ _ (l .inv .3) (c .before .index-at .ensures .1),
       weight-small _ _ _ _ w (base .whole) (base .two) (omega arith),
       base,
     ))
     (λ c. omega arith)
     (λ c κs. omega arith)
     (λ c.
-    let l = c .before .before .loop in
-    let k : l .k ≡ c .before .before .before .before .before .before .args .n = omega arith in
+    let l = c .before .before .before .loop in
+    let k : l .k ≡ c .before .before .before .before .before .before .before .args .p .n = omega arith in
     c .record-of .ensures ∙ ap (λ (d : ℕ). pixel 0 d 0 255) (rw k at (l .inv .1))))

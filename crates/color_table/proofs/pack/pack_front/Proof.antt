@@ -9,10 +9,10 @@ pack-front-spec =
     tie.close
     (tie.spec
     (λ c κs.
-    let s = c .before .before .before .before .before .before in
+    let s = c .before .before .before .before .before .before .before in
     let q = c .before .if1 .taken in
-    let row = row-at 8 _ _ _ _ _ _ q (s .pre .1 .0) in
-    (pair-of _ _ (row .places) (s .pre .0 .most) (s .pre .0 .some) (s .pre .0 .there), (row, s .pre .1 .1)))
+    let row = row-at 8 _ _ _ _ _ _ q (s .pre .0 .row) in
+    (pair-of _ _ (row .places) (s .pre .0 .table .most) (s .pre .0 .table .some) (s .pre .0 .table .there), (row, s .pre .1)))
     (λ c κs. search needs)
     (λ c. search needs)
     (λ c. search needs)

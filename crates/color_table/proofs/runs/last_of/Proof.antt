@@ -7,19 +7,19 @@ use Rattle.format.specs.declared.Pixel.{Pixel}
 use Rattle.format.specs.Picture.{pixels}
 use Rattle.format.specs.ColorTable.{indexOf, digits}
 use Rattle.color_table.proofs.Index.{taken-below}
-use Rattle.color_table.proofs.Digits.{Base, base-of}
+use Rattle.color_table.proofs.Digits.{Base, base-in}
 use Rattle.color_table.proofs.Records.{uniform-of}
 use Rattle.color_table.proofs.runs.last_of.Statement.{statement}
 use Rattle.color_table.proofs.runs.last_of.Tie as tie
 
 module _ (s : tie.Start) where
-  base : Base (s .args .size) (s .args .n) (s .args .range)
-  base = base-of _ _ _ (s .pre .0 .most) (s .pre .1 .0 .places) (s .pre .1 .0 .base)
+  base : Base (s .args .p .size) (s .args .p .n) (s .args .p .range)
+  base = base-in _ _ _ _ (s .pre .0)
 
-  ones : (v : Pixel) → v ≡ pixels (s .args .row .now) (s .args .x) → (i : ℕ) → i ≡ indexOf (s .args .size) (pixels (s .args .entries .now)) v
-      → (i * (255 / (s .args .range - 1)) < 256) × (i * (255 / (s .args .range - 1)) ≡ digits (s .args .range) (s .args .n) (λ k. i))
+  ones : (v : Pixel) → v ≡ pixels (s .args .row .now) (s .args .x) → (i : ℕ) → i ≡ indexOf (s .args .p .size) (pixels (s .args .entries .now)) v
+      → (i * (255 / (s .args .p .range - 1)) < 256) × (i * (255 / (s .args .p .range - 1)) ≡ digits (s .args .p .range) (s .args .p .n) (λ k. i))
   ones v q i r =
-      let l = taken-below _ _ _ (s .args .width) _ _ _ (s .pre .1 .0 .taken) q r (s .pre .1 .1) in
+      let l = taken-below _ _ _ (s .args .p .width) _ _ _ (s .pre .0 .row .taken) q r (s .pre .1) in
       let b = base .fits in
       base .ones i (omega arith)
 
@@ -29,9 +29,9 @@ last-of-spec =
     (tie.spec
     (λ c κs. search needs)
     (λ c κs. search needs)
-    (λ c. let b = base (c .before .before .before .before .before) in omega arith)
-    (λ c. let b = base (c .before .before .before .before .before) in omega arith)
-    (λ c. let o = ones (c .before .before .before .before .before) _ (c .before .word-at .ensures) _ (c .find .ensures) in omega arith)
-    (λ c. let o = ones (c .before .before .before .before .before) _ (c .before .word-at .ensures) _ (c .find .ensures) in omega arith)
-    (λ c κs. ones (c .before .before .before .before .before) _ (c .before .word-at .ensures) _ (c .find .ensures) .0)
-    (λ c. (refl, uniform-of _ _ _ _ _ _ _ _ (c .record-of .ensures) (ones (c .before .before .before .before .before .before) _ (c .before .before .word-at .ensures) _ (c .before .find .ensures) .1) (c .before .find .ensures))))
+    (λ c. let b = base (c .before .before .before .before .before .before) in omega arith)
+    (λ c. let b = base (c .before .before .before .before .before .before) in omega arith)
+    (λ c. let o = ones (c .before .before .before .before .before .before) _ (c .before .before .word-at .ensures) _ (c .before .find .ensures) in omega arith)
+    (λ c. let o = ones (c .before .before .before .before .before .before) _ (c .before .before .word-at .ensures) _ (c .before .find .ensures) in omega arith)
+    (λ c κs. ones (c .before .before .before .before .before .before) _ (c .before .before .word-at .ensures) _ (c .before .find .ensures) .0)
+    (λ c. (refl, uniform-of _ _ _ _ _ _ _ _ (c .record-of .ensures) (ones (c .before .before .before .before .before .before .before) _ (c .before .before .before .word-at .ensures) _ (c .before .before .find .ensures) .1) (c .before .before .find .ensures))))

@@ -12,7 +12,7 @@ use Rattle.format.proofs.ByKind.{takes-table}
 use Rattle.pixel.specs.Held.{HoldsRow}
 use Rattle.color_table.specs.Pack.{Hints}
 use Rattle.chain.specs.declared.Chain.{Chain}
-use Rattle.chain.specs.Valid.{Valid, stepsOf, widthAfter, storedBy, acceptsBy}
+use Rattle.chain.specs.Valid.{Valid, stepsOf, storedBy, acceptsBy}
 use Rattle.store.specs.Stage.{TableAt, HintsFor, RowOf, Accepts}
 use Rattle.store.proofs.Stages.{accepts-none, accepts-table}
 

@@ -21,7 +21,7 @@ use Rattle.store.specs.Scratch.{Scratch}
 use Rattle.chain.specs.declared.Chain.{Chain}
 use Rattle.store.specs.Stage.{RowOf}
 use Rattle.store.proofs.Lent.{back-length, lent-length}
-use Rattle.store.proofs.Packed.{every-all, row-accepted}
+use Rattle.store.proofs.Packed.{every-all, row-entries}
 
 -- scratch at its lengths
 pub scratch-kept : (row rows row′ rows′ : List ℕ) → Scratch row rows → length row′ ≡ length row → length rows′ ≡ length rows → Scratch row′ rows′
@@ -71,11 +71,11 @@ part-room y w strip l = let e = lent-length (4 * (y * w)) (4 * (y * w) + 4 * w) 
 
 -- acceptance, row by row
 
-pub accepted-none : (size w : ℕ) (e f : Picture) → haveEntries size e (0 * w) f ≡ true
-accepted-none size w e f = let z : 0 * w ≡ 0 = omega arith in rw z refl
+pub entries-none : (size w : ℕ) (e f : Picture) → haveEntries size e (0 * w) f ≡ true
+entries-none size w e f = let z : 0 * w ≡ 0 = omega arith in rw z refl
 
-pub accepted-more : (size w y : ℕ) (e f : Picture) (row : List ℕ) → haveEntries size e (y * w) f ≡ true → HoldsRow f y w row → haveEntries size e w (pixels row) ≡ true → haveEntries size e ((y + 1) * w) f ≡ true
-accepted-more size w y e f row a h t = every-all ((y + 1) * w) (λ p. hasEntry size e (f p)) at
+pub entries-more : (size w y : ℕ) (e f : Picture) (row : List ℕ) → haveEntries size e (y * w) f ≡ true → HoldsRow f y w row → haveEntries size e w (pixels row) ≡ true → haveEntries size e ((y + 1) * w) f ≡ true
+entries-more size w y e f row a h t = every-all ((y + 1) * w) (λ p. hasEntry size e (f p)) at
   where
     rowwise : (x : ℕ) → x < w → hasEntry size e (f (y * w + x)) ≡ true
     rowwise x l = rw (h x l) at (every-at w (λ p. hasEntry size e (pixels row p)) x l t)
@@ -90,9 +90,9 @@ accepted-more size w y e f row a h t = every-all ((y + 1) * w) (λ p. hasEntry s
             let i : y * w + (p - y * w) ≡ p = omega arith in
             subst (λ (r : ℕ). hasEntry size e (f r) ≡ true) i (rowwise (p - y * w) (omega arith))
 
-pub accepted-not : (size w h y : ℕ) (e f : Picture) (row : List ℕ) → HoldsRow f y w row → haveEntries size e w (pixels row) ≡ false → y < h → false ≡ haveEntries size e (h * w) f
-accepted-not size w h y e f row r t l = go (haveEntries size e (h * w) f) refl
+pub entries-not : (size w h y : ℕ) (e f : Picture) (row : List ℕ) → HoldsRow f y w row → haveEntries size e w (pixels row) ≡ false → y < h → false ≡ haveEntries size e (h * w) f
+entries-not size w h y e f row r t l = go (haveEntries size e (h * w) f) refl
   where
     go : (a : Bool) → haveEntries size e (h * w) f ≡ a → false ≡ a
     go false z = refl
-    go true z = sym t ∙ row-accepted w h size y e f row z r l
+    go true z = sym t ∙ row-entries w h size y e f row z r l

@@ -18,13 +18,13 @@ use Rattle.pixel.proofs.Held.{held-part}
 use Rattle.chain.specs.declared.Chain.{Chain}
 use Rattle.chain.specs.Valid.{Valid, stepsOf, widthAfter, storedBy, acceptsBy}
 use Rattle.store.specs.Stage.{RowOf, Started, Above, Accepts, TableAt, TableAlone}
-use Rattle.store.proofs.Packed.{packed-in, row-accepted}
+use Rattle.store.proofs.Packed.{packed-in, row-entries}
 use Rattle.store.proofs.Stages.{accepts-at}
 
 module _ (s : Step) (h : ℕ) (ds : List ℕ) (y : ℕ) (bs : List ℕ) (kind : s .kind ≡ 3) (fits : 4 * (y * s .width) + 4 * s .width ≤ length bs) where
-  pub first-accepted : takes s h ds (pixels bs) ≡ true → y < h → haveEntries (s .size) (partOf s ds) (s .width) (pixels (part (y * s .width) (s .width) bs)) ≡ true
-  first-accepted t l =
-      row-accepted (s .width) h (s .size) y (partOf s ds) (pixels bs) (part (y * s .width) (s .width) bs) (sym (takes-table s h ds (pixels bs) kind) ∙ t) (held-part y (s .width) bs fits) l
+  pub first-entries : takes s h ds (pixels bs) ≡ true → y < h → haveEntries (s .size) (partOf s ds) (s .width) (pixels (part (y * s .width) (s .width) bs)) ≡ true
+  first-entries t l =
+      row-entries (s .width) h (s .size) y (partOf s ds) (pixels bs) (part (y * s .width) (s .width) bs) (sym (takes-table s h ds (pixels bs) kind) ∙ t) (held-part y (s .width) bs fits) l
 
   pub first-packed : (xs ys : List ℕ) → ys ≡ written (packedWidth (s .size) (s .width)) (packed (s .width) (s .size) (partOf s ds) (pixels (part (y * s .width) (s .width) bs))) xs
       → HoldsRow (forward s ds (pixels bs)) y (narrowed s) ys

@@ -44,8 +44,8 @@ every-all zero t h = refl
 every-all (suc n) t h = and-both (t n) (every n t) (h n (omega arith)) (every-all n t (λ q l. h q (omega arith)))
 
 -- a row of an accepted picture
-pub row-accepted : (w h size y : ℕ) (e f : Picture) (xs : List ℕ) → haveEntries size e (h * w) f ≡ true → HoldsRow f y w xs → y < h → haveEntries size e w (pixels xs) ≡ true
-row-accepted w h size y e f xs a r l =
+pub row-entries : (w h size y : ℕ) (e f : Picture) (xs : List ℕ) → haveEntries size e (h * w) f ≡ true → HoldsRow f y w xs → y < h → haveEntries size e w (pixels xs) ≡ true
+row-entries w h size y e f xs a r l =
     every-all w (λ q. hasEntry size e (pixels xs q)) (λ x u. rw (r x u) (every-at (h * w) (λ q. hasEntry size e (f q)) (y * w + x) (digits-lt l u) a))
 
 -- a row has no more records than pixels

@@ -13,10 +13,10 @@ use Rattle.format.proofs.Choice.{and-left, and-right}
 use Rattle.format.proofs.ByKind.{takes-table, takes-other}
 use Rattle.pixel.specs.Held.{HoldsRow}
 use Rattle.chain.specs.declared.Chain.{Chain}
-use Rattle.chain.specs.Valid.{Valid, stepsOf, widthAfter, storedBy}
+use Rattle.chain.specs.Valid.{Valid, stepsOf, storedBy}
 use Rattle.store.specs.Stage.{Takes, Advanced, Above, HintsFor, RowOf, Accepts}
 use Rattle.chain.proofs.Valid.{step-sized}
-use Rattle.store.proofs.Packed.{row-accepted}
+use Rattle.store.proofs.Packed.{row-entries}
 
 -- acceptance
 
@@ -63,7 +63,7 @@ module _ (c : Chain) (ds : List ℕ) (v : Valid c ds) (m : ℕ) (most : m ≤ c 
   takes-row f hints row k y hs a r l u = record {
     found = hs .found k (omega arith);
     taken = λ e.
-        row-accepted (stepsOf c k .width) (c .height) (stepsOf c k .size) y _ (storedBy c ds k f) row
+        row-entries (stepsOf c k .width) (c .height) (stepsOf c k .size) y _ (storedBy c ds k f) row
         (sym (takes-table (stepsOf c k) (c .height) ds (storedBy c ds k f) e) ∙ accepts-at (stepsOf c) (c .height) ds f m k l a) (rw (v .width k (omega arith)) r) u;
   }
 

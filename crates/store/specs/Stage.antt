@@ -1,5 +1,5 @@
 -- A row on its way through the stages of a chain. y is its number, ds the data, c the chain as a value.
-use mathlib.Core.Bool.{Bool, true}
+use mathlib.Core.Bool.{true}
 use mathlib.Core.List.{List}
 use mathlib.Core.Path.{_≡_}
 use Prim.Native.Nat.{ℕ, _+_, _*_, _-_, _<_, _≤_}

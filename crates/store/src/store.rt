@@ -12,9 +12,9 @@ ghost use mathlib.Core.Path.{_≡_};
 ghost use mathlib.Core.Bool.{true};
 ghost use Rattle.format.specs.Picture.{pixels};
 ghost use Rattle.format.specs.Calls.{storeAnswer, storeStrip};
-ghost use Rattle.chain.specs.Valid.{Valid, stepsOf, HoldsPicture, HoldsStrip};
+ghost use Rattle.chain.specs.Valid.{Valid, HoldsPicture, HoldsStrip};
 ghost use Rattle.store.specs.Scratch.{Scratch};
-ghost use Rattle.store.specs.Stage.{TableAt, HintsFor, Storing, Accepts, TableAlone, stripAfter, Stored};
+ghost use Rattle.store.specs.Stage.{Storing, Accepts, TableAlone, stripAfter, Stored};
 
 // The rows of an accepted picture.
 fn store_rows(

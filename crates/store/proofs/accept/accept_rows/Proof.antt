@@ -12,7 +12,7 @@ use Rattle.chain.proofs.Tabled.{not-taken, not-left}
 use Rattle.chain.proofs.Valid.{step-sized}
 use Rattle.store.specs.Scratch.{Scratch}
 use Rattle.store.specs.Stage.{Above}
-use Rattle.store.proofs.Copied.{scratch-kept, accepted-none, accepted-more, accepted-not}
+use Rattle.store.proofs.Copied.{scratch-kept, entries-none, entries-more, entries-not}
 use Rattle.store.proofs.Stages.{above-first, above-row}
 use Rattle.store.proofs.Accepting.{first-accepts, table-accepts, table-held, all-rows}
 use Rattle.store.proofs.accept.accept_rows.Statement.{statement}
@@ -38,7 +38,7 @@ accept-rows-spec =
     (λ c.
     let a = c .before .before .before .before .before .before .before .before .args in
     let s = stepsOf (a .chain) (a .t) in
-    (omega arith, c .before .before .before .before .before .before .before .before .pre .0 .1, accepted-none (s .size) (s .width) (partOf s (a .«data» .now)) (storedBy (a .chain) (a .«data» .now) (a .t) (pixels (a .picture .now))), above-first _ _ _ _ _))
+    (omega arith, c .before .before .before .before .before .before .before .before .pre .0 .1, entries-none (s .size) (s .width) (partOf s (a .«data» .now)) (storedBy (a .chain) (a .«data» .now) (a .t) (pixels (a .picture .now))), above-first _ _ _ _ _))
     (λ c κs.
     let p = c .before .before .before .before .before .before .before .before .before .before .before .before .before .pre in
     let l = c .before .before .before .before .loop in
@@ -58,7 +58,7 @@ accept-rows-spec =
     let v = p .0 .0 .valid in
     let y = c .before .before .before .before .before .before .before .before .before .before .before .before .loop .y in
     table-accepts _ _ v _ (p .1 .0) (p .1 .1) _ _
-    (accepted-not _ (stepsOf (c .before .before .before .before .before .before .before .before .before .before .before .before .before .before .before .before .before .before .before .before .before .args .chain) (c .before .before .before .before .before .before .before .before .before .before .before .before .before .before .before .before .before .before .before .before .before .args .t) .width) _ y _ _ _ (table-held _ _ v _ (p .1 .0) (p .1 .1) (pixels (c .before .before .before .before .before .before .before .before .before .before .before .before .before .before .before .before .before .before .before .before .before .args .picture .now)) y _ (c .before .before .before .before .before .before .before .make-row .ensures .0))
+    (entries-not _ (stepsOf (c .before .before .before .before .before .before .before .before .before .before .before .before .before .before .before .before .before .before .before .before .before .args .chain) (c .before .before .before .before .before .before .before .before .before .before .before .before .before .before .before .before .before .before .before .before .before .args .t) .width) _ y _ _ _ (table-held _ _ v _ (p .1 .0) (p .1 .1) (pixels (c .before .before .before .before .before .before .before .before .before .before .before .before .before .before .before .before .before .before .before .before .before .args .picture .now)) y _ (c .before .before .before .before .before .before .before .make-row .ensures .0))
     (rw (c .before .before .before .before .before .before .before .before .before .before .before .before .before .part-of .ensures) at (not-taken _ _ (c .before .accept .ensures) (c .if2 .taken))) (c .before .before .before .before .before .before .before .before .before .before .if1 .taken)))
     (λ c. omega (arith, c .before .before .before .before .before .before .before .before .before .before .before .before .before .before .before .before .before .before .before .before .before .pre .0 .0 .valid .sized .low, c .before .before .before .before .before .before .before .before .before .before .if1 .taken))
     (λ c. omega (arith, c .before .before .before .before .before .before .before .before .before .before .if1 .taken))
@@ -68,7 +68,7 @@ accept-rows-spec =
     let l = c .before .before .before .before .before .before .before .before .before .before .before .before .loop in (
       omega (arith, c .before .before .before .before .before .before .before .before .before .before .if1 .taken),
       scratch-kept _ _ _ _ (l .inv .1) (c .before .before .before .before .before .before .before .make-row .kept .1 .1 .1 .1 .1 .0) (c .before .before .before .before .before .before .before .make-row .kept .1 .1 .1 .1 .1 .1 .0),
-      accepted-more _ (stepsOf (c .before .before .before .before .before .before .before .before .before .before .before .before .before .before .before .before .before .before .before .before .before .args .chain) (c .before .before .before .before .before .before .before .before .before .before .before .before .before .before .before .before .before .before .before .before .before .args .t) .width) (l .y) _ _ _ (l .inv .2) (table-held _ _ v _ (p .1 .0) (p .1 .1) (pixels (c .before .before .before .before .before .before .before .before .before .before .before .before .before .before .before .before .before .before .before .before .before .args .picture .now)) (l .y) _ (c .before .before .before .before .before .before .before .make-row .ensures .0))
+      entries-more _ (stepsOf (c .before .before .before .before .before .before .before .before .before .before .before .before .before .before .before .before .before .before .before .before .before .args .chain) (c .before .before .before .before .before .before .before .before .before .before .before .before .before .before .before .before .before .before .before .before .before .args .t) .width) (l .y) _ _ _ (l .inv .2) (table-held _ _ v _ (p .1 .0) (p .1 .1) (pixels (c .before .before .before .before .before .before .before .before .before .before .before .before .before .before .before .before .before .before .before .before .before .args .picture .now)) (l .y) _ (c .before .before .before .before .before .before .before .make-row .ensures .0))
           (rw (c .before .before .before .before .before .before .before .before .before .before .before .before .before .part-of .ensures) at (not-left _ _ (c .before .accept .ensures) (c .if2 .left))),
       above-row _ _ _ _ (l .y) _ (c .before .before .before .before .before .before .before .make-row .ensures .1),
     ))

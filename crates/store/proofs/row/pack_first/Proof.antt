@@ -7,7 +7,7 @@ use Rattle.chain.proofs.Parts.{part-entries}
 use Rattle.format.proofs.ByKind.{narrowed-table}
 use Rattle.pixel.proofs.Blocks.{row-there}
 use Rattle.store.proofs.Copied.{part-room}
-use Rattle.store.proofs.First.{first-accepted, first-packed}
+use Rattle.store.proofs.First.{first-entries, first-packed}
 use Rattle.store.proofs.row.pack_first.Statement.{statement}
 use Rattle.store.proofs.row.pack_first.Tie as tie
 
@@ -31,7 +31,7 @@ pack-first-spec =
     let f = narrowed-table (a .s) (p .0 .2) in
     let fits : 4 * (a .y * a .s .width) + 4 * a .s .width ≤ length (a .picture .now) = omega (arith, row-there (a .s .width) (a .height) (a .y) (c .before .before .before .before .before .before .before .before .before .pre .0 .3), c .before .before .before .before .before .before .before .before .before .pre .1 .0 .0) in (
       (t .some, t .most, part-entries _ _ _ (p .0 .1) _ e (p .0 .2), p .0 .0 .wide, p .0 .0 .narrow, part-room (a .y) (a .s .width) (a .picture .now) fits, omega (arith, p .1 .0 .1)),
-      (rw e (p .1 .1 .0), rw e (first-accepted (a .s) (a .height) (a .«data» .now) (a .y) (a .picture .now) (p .0 .2) fits (p .1 .1 .1) (p .0 .3))),
+      (rw e (p .1 .1 .0), rw e (first-entries (a .s) (a .height) (a .«data» .now) (a .y) (a .picture .now) (p .0 .2) fits (p .1 .1 .1) (p .0 .3))),
     ))
     (λ c. c .before .before .pack-row .kept .1 .1 .0)
     (λ c.

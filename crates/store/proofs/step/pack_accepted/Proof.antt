@@ -1,6 +1,5 @@
 -- `pack_accepted` meets its contract: what is packed in scratch comes back to the row.
 use native.Mathlib.Omega.{arith}
-use borrow.Author.Needs.{needs}
 use Rattle.format.specs.Picture.{pixels}
 use Rattle.format.specs.ColorTable.{packed, packedWidth}
 use Rattle.format.specs.Stages.{partOf}

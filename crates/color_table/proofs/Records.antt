@@ -34,6 +34,18 @@ pub record-row : (w size : ℕ) (e f : Picture) (n u j : ℕ) (v : Pixel) → v 
     → v ≡ packed w size e f j
 record-row w size e f n u j v q p r l = q ∙ rw (r, p) (packed-row w size e f j l)
 
+-- a record of two indices
+pub double-record : (w size i k b j : ℕ) (e f : Picture) (u v p : Pixel) → p ≡ pixel 0 b 0 255 → b ≡ i + 16 * k → u ≡ f (2 * j) → v ≡ f (2 * j + 1) → i ≡ indexOf size e u → k ≡ indexOf size e v → 2 ≡ perPixel size → 2 * j + 2 ≤ w
+    → p ≡ packed w size e f j
+unfolding digits rowIndices
+double-record w size i k b j e f u v p q z r s x y places l =
+    let o : j * 2 + 0 ≡ 2 * j = omega arith in
+    let t : j * 2 + 1 ≡ 2 * j + 1 = omega arith in
+    let m : 2 * j < w = omega arith in
+    let n : 2 * j + 1 < w = omega arith in
+    let d : b ≡ digits 16 2 (rowIndices w size e f (j * 2)) = rw (o, t, lt-ltb (2 * j) w m, lt-ltb (2 * j + 1) w n, ← r, ← s, ← x, ← y) (z ∙ omega arith) in
+    record-row w size e f 2 16 j p (q ∙ ap (λ (c : ℕ). pixel 0 c 0 255) d) places refl (rw (← places) (omega arith))
+
 -- one record more
 pub given-turn : (f : Picture) (a i : ℕ) (xs₀ xs ys : List ℕ) (v : Pixel) → xs ≡ run pixelCells (given f) a (i - a) xs₀ → v ≡ f i → ys ≡ putPixel xs i v → a ≤ i → ys ≡ run pixelCells (given f) a (i + 1 - a) xs₀
 given-turn f a i xs₀ xs ys v e q p l =

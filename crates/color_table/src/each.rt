@@ -10,7 +10,7 @@ ghost use Rattle.format.specs.Pixel.{pixel};
 ghost use Rattle.format.specs.Picture.{pixels};
 ghost use Rattle.format.specs.ColorTable.{packedWidth};
 ghost use Rattle.pixel.specs.Word.{unword};
-ghost use Rattle.color_table.specs.Pack.{Packs, Records, RecordFrom, rowIndices};
+ghost use Rattle.color_table.specs.Pack.{Table, Row, Packs, Records, RecordFrom, rowIndices};
 
 // How a row of `width` pixels is packed by a table of `size` entries: n indices to a record, each below `range`.
 pub struct Packing {
@@ -76,6 +76,31 @@ pub fn pack_each(
     let mut j = from;
     while j < to {
         put_word(out, j, pack_record(row, j * p.n, entries, hints, p));
+        j += 1;
+    }
+}
+
+// The same where a record holds two, and is inside the row.
+pub fn pack_doubles(
+    row: &[u8],
+    width: usize,
+    out: &mut [u8],
+    from: usize,
+    to: usize,
+    entries: &[u8],
+    size: usize,
+    hints: &[u8],
+)
+    requires { ⌜ Table size (now entries) (now hints) ⌝ }
+    requires { ⌜ Row size width 2 16 (now entries) (now row) ⌝ }
+    requires { ⌜ (from ≤ to) × (2 * to ≤ width) × (4 * to ≤ length (now out)) ⌝ }
+    ensures { λ _. ⌜ Records width size (now (entries .entry)) (now (row .entry)) from (to - from) (now (out .entry)) (now (out .exit)) ⌝ }
+{
+    let mut j = from;
+    while j < to {
+        let low = find(entries, size, hints, word_at(row, 2 * j));
+        let high = find(entries, size, hints, word_at(row, 2 * j + 1));
+        put_word(out, j, record_of((low + 16 * high) as u32));
         j += 1;
     }
 }

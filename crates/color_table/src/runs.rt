@@ -1,6 +1,7 @@
 // Storing by runs: sixteen pixels at a time are compared with the one before them, and packed one by one only where they differ.
 use crate::accept::eight_of;
 use crate::each::Packing;
+use crate::each::pack_doubles;
 use crate::each::pack_each;
 use crate::each::record_of;
 use crate::find::find;
@@ -95,6 +96,9 @@ fn pack_group(row: &[u8], out: &mut [u8], g: usize, entries: &[u8], hints: &[u8]
 {
     if p.n == 4 {
         put_pairs(row, p.width, out, g * 4, entries, p.size);
+    } else if p.n == 2 {
+        let j = g * 8;
+        pack_doubles(row, p.width, out, j, j + 8, entries, p.size, hints);
     } else {
         let m = 16 / p.n;
         let j = g * m;

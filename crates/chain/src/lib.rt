@@ -54,7 +54,8 @@ fn le32(xs: &[u8], i: usize) -> usize
 
 fn record_at(chain: &[u8], k: usize, width: usize) -> Step
     requires { ⌜ 16 * k + 16 ≤ length (now chain) ⌝ }
-    ensures { λ r. ⌜ (r ≡ recordAt (now (chain .entry)) k width) × (r .offset < 4294967296) × (r .length < 4294967296) ⌝ }
+    ensures { λ r. ⌜ (r ≡ recordAt (now (chain .entry)) k width) × (r .offset < 4294967296)
+        × (r .length < 4294967296) ⌝ }
 {
     let i = 16 * k;
     Step {

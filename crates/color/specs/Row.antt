@@ -39,7 +39,8 @@ greenRow w y xs = run pixelCells (pointwise (everywhere addGreen)) (y * w) w xs
 
 -- row y stored, in a buffer of its own
 abbrev pub ColorRowStored : ℕ → ℕ → List ℕ → ℕ → List ℕ → List ℕ → Type 0
-ColorRowStored w bits blocks y xs ys = (f : Picture) → HoldsRow f y w xs → HoldsRow (colorStored w bits (pixels blocks) f) y w ys
+ColorRowStored w bits blocks y xs ys =
+    (f : Picture) → HoldsRow f y w xs → HoldsRow (colorStored w bits (pixels blocks) f) y w ys
 
 abbrev pub GreenRowStored : ℕ → List ℕ → List ℕ → Type 0
 GreenRowStored w xs ys = (f : Picture) (y : ℕ) → HoldsRow f y w xs → HoldsRow (greenStored f) y w ys

@@ -24,8 +24,8 @@ fn factor(t: u8) -> u32
     wide(t % 128) + wide(t / 128) * 8064
 }
 
-// With u - 128 for the signed byte c, the product is m * u - 128 * m. 2^20 keeps it from falling below 0 and is lost modulo
-// 256, as 2^13 / 32 is 256.
+// With u - 128 for the signed byte c, the product is m * u - 128 * m. 2^20 keeps it from falling below 0 and is lost
+// modulo 256, as 2^13 / 32 is 256.
 fn color_transform_delta(m: u32, c: u8) -> u8
     requires { ⌜ m < 8192 ⌝ }
     ensures { λ r. ⌜ DeltaBy m c r ⌝ }

@@ -1,5 +1,5 @@
--- The color indexing transform (RFC 9649, "Color Indexing Transform"; document 01, module 4). `size` is how many entries
--- the table has, `e` gives them.
+-- The color indexing transform (RFC 9649, "Color Indexing Transform"; document 01, module 4). `size` is how many
+-- entries the table has, `e` gives them.
 use mathlib.Core.Bool.{Bool}
 use Prim.Native.Nat.{ℕ, zero, suc, _+_, _*_, _/_, _%_, _^_}
 use lib.Dec.{leb, ltb}

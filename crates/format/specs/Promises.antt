@@ -62,8 +62,8 @@ module _ (w h : ℕ) (cs ds : List ℕ) where
       → accepted (retouchAnswer w h cs ds picture strip x y v) ≡ false
       → (retouchPicture w h cs ds picture strip x y v ≡ picture) × (retouchStrip w h cs ds picture strip x y v ≡ strip)
 
-  -- what is accepted, exactly: 1 does not apply, the chain is valid, the buffers have room and, where storing, each pixel
-  -- that reaches the table has an entry
+  -- what is accepted, exactly: 1 does not apply, the chain is valid, the buffers have room and, where storing, each
+  -- pixel that reaches the table has an entry
   abbrev pub Admitted : Type 0
   Admitted = (sizeRefusal w h ≡ 0) × ValidChain w h cs ds
 
@@ -128,9 +128,9 @@ module _ (w h : ℕ) (cs ds : List ℕ) where
     abbrev pub paintedInTurn : Picture
     paintedInTurn = inTurn (paintedBy w) (pixels (b .picture)) (acceptedCalls answered calls)
 
-    -- after a list of calls: every answer is the desk's; the picture is the first one with the accepted retouches painted
-    -- in order, which is the desk's; the strip is that picture stored afresh; bytes beyond are those of the start; and
-    -- what holds of one call holds of whichever is next
+    -- after a list of calls: every answer is the desk's; the picture is the first one with the accepted retouches
+    -- painted in order, which is the desk's; the strip is that picture stored afresh; bytes beyond are those of the
+    -- start; and what holds of one call holds of whichever is next
     pub record AfterRetouches : Type 0 where
       pub answers : answered ≡ answersTo (desk w h cs ds) (pixels (b .picture)) calls
       pub picture : left .picture ≡ written (h * w) paintedInTurn (b .picture)

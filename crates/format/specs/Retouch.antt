@@ -31,9 +31,9 @@ placeOf s q = if eqb (s .kind) 3 then packedOver (s .width) (s .size) q else q
 unfoldable pub spotsOf : Step → ℕ → List ℕ
 spotsOf s q = if eqb (s .kind) 0 then fiveSpots (s .width) q else (placeOf s q ∷ [])
 
--- the records, after the first k of a chain, that the spots of the pixels ps belong to. Of one pixel: up to the predictor
--- one item holds it, its five spots are made there, and each is in one record; without a predictor it is the only spot.
--- A spot is outside its stage exactly if its record is past the strip's last (proofs/Spots.antt)
+-- the records, after the first k of a chain, that the spots of the pixels ps belong to. Of one pixel: up to the
+-- predictor one item holds it, its five spots are made there, and each is in one record; without a predictor it is the
+-- only spot. A spot is outside its stage exactly if its record is past the strip's last (proofs/Spots.antt)
 unfoldable pub spotRecords : (ℕ → Step) → ℕ → List ℕ → List ℕ
 spotRecords steps zero ps = ps
 spotRecords steps (suc k) ps = union (spotsOf (steps k)) (spotRecords steps k ps)

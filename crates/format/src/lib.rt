@@ -1,4 +1,5 @@
-// What the format says, as definitions in specs/ and laws in proofs/. The code is the types that definitions and code share.
+// What the format says, as definitions in specs/ and laws in proofs/. The code is the types that definitions and code
+// share.
 
 // A pixel by value.
 pub struct Pixel {

@@ -96,7 +96,8 @@ pub fn item(chain: Chain, k: usize, q: usize, data: &[u8], picture: &[u8], point
 fn residual(chain: Chain, k: usize, q: usize, data: &[u8], picture: &[u8], point: Point) -> Made
     requires { ⌜ Source chain (now «data») (now picture) × (k < chain .count) × (stepsOf chain k .kind ≡ 0) ⌝ }
     requires { ⌜ q < chain .height * stepsOf chain k .width ⌝ }
-    ensures { λ r. ⌜ r ≡ madeItem (stepsOf chain) (now («data» .entry)) (suc k) (shown (now (picture .entry)) point) q ⌝ }
+    ensures { λ r. ⌜ r ≡ madeItem (stepsOf chain) (now («data» .entry)) (suc k)
+        (shown (now (picture .entry)) point) q ⌝ }
 {
     let s = chain.steps[k];
     let at = expanded_place(q, Expanded(s.width));
@@ -135,7 +136,8 @@ fn neighbor(
     item(chain, k, q, data, picture, point)
 }
 
-// The record of n columns of row y from x on, by the table that is record k: those past the row's end are not looked at.
+// The record of n columns of row y from x on, by the table that is record k: those past the row's end are not looked
+// at.
 fn packed(
     chain: Chain,
     k: usize,
@@ -148,7 +150,8 @@ fn packed(
 ) -> Made
     requires { ⌜ Source chain (now «data») (now picture) × (k < chain .count) × (stepsOf chain k .kind ≡ 3) ⌝ }
     requires { ⌜ (y < chain .height) × (n ≤ perPixel (stepsOf chain k .size)) ⌝ }
-    ensures { λ r. ⌜ r ≡ recordMade (stepsOf chain) (now («data» .entry)) k (shown (now (picture .entry)) point) y n x ⌝ }
+    ensures { λ r. ⌜ r ≡ recordMade (stepsOf chain) (now («data» .entry)) k
+        (shown (now (picture .entry)) point) y n x ⌝ }
 {
     let s = chain.steps[k];
     if n == 0 {

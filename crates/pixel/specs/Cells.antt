@@ -16,7 +16,8 @@ byteCells = record { get = byteAt; put = set; size = 1 }
 
 -- pixel i replaced
 unfoldable pub putPixel : List ℕ → ℕ → Pixel → List ℕ
-putPixel xs i v = set (set (set (set xs (4 * i) (v .red)) (4 * i + 1) (v .green)) (4 * i + 2) (v .blue)) (4 * i + 3) (v .alpha)
+putPixel xs i v =
+    set (set (set (set xs (4 * i) (v .red)) (4 * i + 1) (v .green)) (4 * i + 2) (v .blue)) (4 * i + 3) (v .alpha)
 
 abbrev pub pixelCells : Cells Pixel
 pixelCells = record { get = pixels; put = putPixel; size = 4 }

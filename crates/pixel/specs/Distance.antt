@@ -5,4 +5,6 @@ use Rattle.format.specs.Byte.{distance}
 
 -- the sum over four channels of |u - v|
 abbrev pub between : Pixel → Pixel → ℕ
-between u v = distance (u .red) (v .red) + distance (u .green) (v .green) + distance (u .blue) (v .blue) + distance (u .alpha) (v .alpha)
+between u v =
+    distance (u .red) (v .red) + distance (u .green) (v .green) + distance (u .blue) (v .blue)
+    + distance (u .alpha) (v .alpha)

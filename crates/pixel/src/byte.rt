@@ -1,4 +1,5 @@
-// Arithmetic on single bytes. Clamping is by saturating sums and differences of bytes, which compile to one instruction each and to no branch.
+// Arithmetic on single bytes. Clamping is by saturating sums and differences of bytes, which compile to one instruction
+// each and to no branch.
 ghost use mathlib.Core.Path.{_≡_};
 ghost use Prim.Native.Nat.{_+_, _-_, _<_, _≤_, min};
 ghost use Rattle.format.specs.Byte.{avg, distance as distanceOf, clampFull, clampHalf};

@@ -1,5 +1,5 @@
-// A pixel in one number of 32 bits. The four byte reads, summed, and the four byte stores compile to one load and one store of 32 bits each, so that
-// a loop over pixels is vectorized.
+// A pixel in one number of 32 bits. The four byte reads, summed, and the four byte stores compile to one load and one
+// store of 32 bits each, so that a loop over pixels is vectorized.
 use format::Pixel;
 ghost use mathlib.Core.Path.{_≡_};
 ghost use Prim.Native.Nat.{_+_, _*_, _%_, _<_, _≤_};

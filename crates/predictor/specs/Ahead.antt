@@ -17,7 +17,8 @@ summed p i = each add (p i) (p (i - 1))
 
 -- four pixels from i gain L, and the last two of them are known
 abbrev pub FourGained : ℕ → ℕ → List ℕ → List ℕ → Four → Type 0
-FourGained w i xs ys r = (ys ≡ run pixelCells (gains (around 1 w)) i 4 xs) × (r .c ≡ pixels ys (i + 2)) × (r .d ≡ pixels ys (i + 3))
+FourGained w i xs ys r =
+    (ys ≡ run pixelCells (gains (around 1 w)) i 4 xs) × (r .c ≡ pixels ys (i + 2)) × (r .d ≡ pixels ys (i + 3))
 
 -- the sums of four pixels from i
 pub record Sums (p : Picture) (i : ℕ) (s : Four) : Type 0 where

@@ -22,4 +22,6 @@ FirstStored w row out = (bits : ℕ) (d f : Picture) → HoldsRow f 0 w row → 
 -- row y stored: `rows` holds the row above, where there is one, and then the row
 abbrev pub RowStored : ℕ → ℕ → List ℕ → ℕ → List ℕ → List ℕ → Type 0
 RowStored w bits blocks y rows out =
-    (f : Picture) → (1 ≤ y → HoldsRow f (y - 1) w rows) → ((x : ℕ) → x < w → pixels rows (w + x) ≡ f (y * w + x)) → HoldsRow (residuals w bits (pixels blocks) f) y w out
+    (f : Picture) → (1 ≤ y → HoldsRow f (y - 1) w rows)
+    → ((x : ℕ) → x < w → pixels rows (w + x) ≡ f (y * w + x))
+    → HoldsRow (residuals w bits (pixels blocks) f) y w out

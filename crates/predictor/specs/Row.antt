@@ -1,4 +1,5 @@
--- A row in a part of the picture that holds the row above it and then the row, w pixels each: pixel w + x of the part is column x of the row.
+-- A row in a part of the picture that holds the row above it and then the row, w pixels each: pixel w + x of the part
+-- is column x of the row.
 use mathlib.Core.Bool.{Bool}
 use mathlib.Core.List.{List}
 use mathlib.Core.Path.{_≡_}
@@ -14,7 +15,8 @@ use Rattle.format.specs.Predictor.{predict}
 use Rattle.pixel.specs.Distance.{between}
 use Rattle.pixel.specs.Cells.{Rule, pixelCells, run, given}
 
--- the prediction of pixel i from its neighbors by a mode; TR of the last column is the row's first pixel, since the row follows the row above
+-- the prediction of pixel i from its neighbors by a mode; TR of the last column is the row's first pixel, since the row
+-- follows the row above
 abbrev pub around : ℕ → ℕ → Rule Pixel
 around m w p i = predict m (p (i - 1)) (p (i - w)) (p (i - w + 1)) (p (i - w - 1))
 
@@ -51,7 +53,8 @@ abbrev pub columnsLost : ℕ → ℕ → List ℕ → List ℕ → ℕ → ℕ �
 columnsLost w bits blocks rows a b out = lostBy (rowPredicted w bits (pixels blocks)) w rows a b out
 
 abbrev pub rowLost : ℕ → ℕ → List ℕ → List ℕ → List ℕ → List ℕ
-rowLost w bits blocks rows out = run pixelCells (given (residual (rowPredicted w bits (pixels blocks)) w (pixels rows))) 0 w out
+rowLost w bits blocks rows out =
+    run pixelCells (given (residual (rowPredicted w bits (pixels blocks)) w (pixels rows))) 0 w out
 
 -- a pixel of row 0 loses L
 abbrev pub leftResidual : Picture → ℕ → Pixel

@@ -48,8 +48,8 @@ fn store_first_row(row: &[u8], out: &mut [u8], width: usize)
     store_left(row, out, width);
 }
 
-// Row y, out of `rows`, which holds the row above and then the row. Where y is 0 there is no row above, and the first half of
-// `rows` is not looked at.
+// Row y, out of `rows`, which holds the row above and then the row. Where y is 0 there is no row above, and the first
+// half of `rows` is not looked at.
 pub fn store_row(
     rows: &[u8],
     out: &mut [u8],

@@ -1,7 +1,7 @@
-// Mode 1 rebuilt in place, eight pixels a turn. `rows` and `w` are as in `segment`; no row above is read, so that it serves
-// row 0 too. A pixel is the one two places before it, plus its residual and the residual between them. These two are added a
-// turn ahead: then a pixel waits for one addition since the pixel two places before it. Added in the same turn, the compiler
-// adds them to that pixel one after the other.
+// Mode 1 rebuilt in place, eight pixels a turn. `rows` and `w` are as in `segment`; no row above is read, so that it
+// serves row 0 too. A pixel is the one two places before it, plus its residual and the residual between them. These two
+// are added a turn ahead: then a pixel waits for one addition since the pixel two places before it. Added in the same
+// turn, the compiler adds them to that pixel one after the other.
 use format::Pixel;
 use pixel::pixel::add_pixels;
 use pixel::pixel::pixel_at;
@@ -42,8 +42,8 @@ fn sums_at(rows: &[u8], i: usize) -> Four
     }
 }
 
-// What a turn at pixel i starts from: the four pixels before it, and the sums of eight from it. The last two of the four are
-// read; carried by themselves they are not one vector to the compiler.
+// What a turn at pixel i starts from: the four pixels before it, and the sums of eight from it. The last two of the
+// four are read; carried by themselves they are not one vector to the compiler.
 struct Eight {
     before: Four,
     sums: Four,
@@ -97,8 +97,8 @@ fn gain_four(rows: &mut [u8], w: usize, i: usize, before: Four, sums: Four) -> F
     Four { a, b, c, d }
 }
 
-// Eight pixels from i gain theirs; what the next turn starts from is returned. Its sums are read first, since one of them has
-// a residual that is replaced.
+// Eight pixels from i gain theirs; what the next turn starts from is returned. Its sums are read first, since one of
+// them has a residual that is replaced.
 fn gain_eight(rows: &mut [u8], w: usize, i: usize, eight: Eight) -> Eight
     requires { ⌜ 4 * i + 64 ≤ length (now rows) ⌝ }
     requires { ⌜ Prepared (pixels (now rows)) i eight ⌝ }

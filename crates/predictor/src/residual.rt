@@ -1,6 +1,6 @@
-// Segments of a row stored: `rows` holds the row above and then the row, `w` pixels each; the columns from `from` up to `to` of
-// `out` become the row's residuals. What is read is never written, so loops over bytes are vectorized in every mode that goes
-// channel by channel.
+// Segments of a row stored: `rows` holds the row above and then the row, `w` pixels each; the columns from `from` up to
+// `to` of `out` become the row's residuals. What is read is never written, so loops over bytes are vectorized in every
+// mode that goes channel by channel.
 use format::Pixel;
 use pixel::byte::average2;
 use pixel::byte::average4;
@@ -54,8 +54,8 @@ fn byte_residual(rows: &[u8], mode: u8, stride: usize, i: usize) -> u8
     wrapping_sub_u8(rows[stride + i], predict_byte(mode, l, t, tr, tl))
 }
 
-// Bytes from `from` up to `to`. Each caller but the last arm of `store_segment` passes its mode as a constant, so that the
-// compiler makes a loop for that mode.
+// Bytes from `from` up to `to`. Each caller but the last arm of `store_segment` passes its mode as a constant, so that
+// the compiler makes a loop for that mode.
 fn store_bytes(rows: &[u8], out: &mut [u8], mode: u8, stride: usize, from: usize, to: usize)
     requires { ⌜ ByteColumns stride from to (now rows) (now out) ⌝ }
     ensures { λ _. ⌜ now (out .exit) ≡ bytesLost mode stride (now (rows .entry)) from to (now (out .entry)) ⌝ }

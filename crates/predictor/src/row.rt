@@ -1,5 +1,5 @@
-// A row off the first: `rows` is the part of the picture that holds the row above and then the row, and `blocks` the data
-// pixels of the row's blocks.
+// A row off the first: `rows` is the part of the picture that holds the row above and then the row, and `blocks` the
+// data pixels of the row's blocks.
 use crate::residual::store_segment;
 use crate::segment::rebuild_segment;
 use pixel::block::block_end;
@@ -62,7 +62,8 @@ fn store_block(
     requires { ⌜ BlockedRow width bits (now blocks) ⌝ }
     requires { ⌜ (length (now rows) ≡ 8 * width) × (length (now out) ≡ 4 * width) × (1 ≤ x) × (x < width) ⌝ }
     ensures { λ r. ⌜ BlockEnd width bits x r ⌝ }
-    ensures { λ r. ⌜ now (out .exit) ≡ columnsLost width bits (now (blocks .entry)) (now (rows .entry)) x r (now (out .entry)) ⌝ }
+    ensures { λ r. ⌜ now (out .exit) ≡ columnsLost width bits (now (blocks .entry)) (now (rows .entry)) x r
+        (now (out .entry)) ⌝ }
 {
     let e = block_end(x, bits, width);
     let mode = mode_at(blocks, width, bits, x);
@@ -74,7 +75,8 @@ fn store_block(
 pub fn store_row(rows: &[u8], out: &mut [u8], width: usize, bits: u32, blocks: &[u8])
     requires { ⌜ BlockedRow width bits (now blocks) ⌝ }
     requires { ⌜ (length (now rows) ≡ 8 * width) × (length (now out) ≡ 4 * width) ⌝ }
-    ensures { λ _. ⌜ now (out .exit) ≡ rowLost width bits (now (blocks .entry)) (now (rows .entry)) (now (out .entry)) ⌝ }
+    ensures { λ _. ⌜ now (out .exit) ≡ rowLost width bits (now (blocks .entry)) (now (rows .entry))
+        (now (out .entry)) ⌝ }
 {
     let first = subtract_pixels(pixel_at(rows, width), pixel_at(rows, 0));
     put_pixel(out, 0, first);

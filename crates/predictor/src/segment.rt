@@ -1,6 +1,6 @@
-// Segments of a row rebuilt in place, a loop for each mode so that the mode is not tested for each pixel. `rows` holds the row
-// above and then the row, `w` pixels each; the pixels from `from` up to `to` gain their predictions. Mode 0 reads no row above,
-// and serves row 0 too.
+// Segments of a row rebuilt in place, a loop for each mode so that the mode is not tested for each pixel. `rows` holds
+// the row above and then the row, `w` pixels each; the pixels from `from` up to `to` gain their predictions. Mode 0
+// reads no row above, and serves row 0 too.
 use crate::left::apply_predictor_transform_1;
 use crate::select::apply_predictor_transform_11;
 use format::Pixel;
@@ -55,8 +55,8 @@ fn byte_back(rows: &[u8], back: usize, i: usize) -> u8
     wrapping_add_u8(rows[i], rows[i - back])
 }
 
-// Each byte gains the byte that stands `back` bytes before it: a loop over bytes is vectorized where no byte gains one that it
-// rebuilt.
+// Each byte gains the byte that stands `back` bytes before it: a loop over bytes is vectorized where no byte gains one
+// that it rebuilt.
 fn add_back(rows: &mut [u8], back: usize, from: usize, to: usize)
     requires { ⌜ (back ≤ from) × (from ≤ to) × (to ≤ length (now rows)) ⌝ }
     ensures { λ _. ⌜ now (rows .exit) ≡ bytesGained first back back from to (now (rows .entry)) ⌝ }

@@ -1,5 +1,5 @@
-// Mode 11 rebuilt in place. Which neighbor the next pixel takes is worked out for both values that this pixel can have, so
-// that the sum of distances does not wait for this pixel's choice, and no choice is a branch.
+// Mode 11 rebuilt in place. Which neighbor the next pixel takes is worked out for both values that this pixel can have,
+// so that the sum of distances does not wait for this pixel's choice, and no choice is a branch.
 use format::Pixel;
 use pixel::pixel::add_pixels;
 use pixel::pixel::pick_pixel;

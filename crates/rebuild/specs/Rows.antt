@@ -26,12 +26,13 @@ pub record Ready (s : Step) (h : ℕ) (ds xs : List ℕ) : Type 0 where
   pub valid : ValidStep s h (length ds)
   pub room : Holds (s .width) h xs
 
--- how a row's pixels are rebuilt in order, where f is the buffer before the row: a table's row is given by its packed pixels there
+-- how a row's pixels are rebuilt in order, where f is the buffer before the row: a table's row is given by its packed
+-- pixels there
 unfoldable pub rowRule : Step → List ℕ → Picture → Rule Pixel
 rowRule s ds f =
-    byKind (s .kind) (gained (s .width) (s .bits) (partOf s ds)) (pointwise (inPicture inverseColor (s .width) (s .bits) (partOf s ds)))
-    (pointwise (everywhere addGreen))
-    (given (unpacked (s .width) (s .size) (partOf s ds) f))
+    let d = partOf s ds in
+    byKind (s .kind) (gained (s .width) (s .bits) d) (pointwise (inPicture inverseColor (s .width) (s .bits) d))
+    (pointwise (everywhere addGreen)) (given (unpacked (s .width) (s .size) d f))
 
 -- the rows from a up to b rebuilt
 abbrev pub rowsRebuilt : Step → List ℕ → ℕ → ℕ → List ℕ → List ℕ

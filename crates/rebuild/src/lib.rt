@@ -14,7 +14,8 @@ ghost use Rattle.rebuild.specs.Rows.{Ready, ColumnsFor, rowsRebuilt, und
 
 // All rows, from the top: a row is predicted from the row above it.
 fn rebuild_down(s: Step, height: usize, data: &[u8], columns: &[u8; 8192], image: &mut [u8])
-    requires { ⌜ Ready s height (now «data») (now image) × ColumnsFor s (now «data») (now columns) × (s .kind ≡ 3 → ⊥) ⌝ }
+    requires { ⌜ Ready s height (now «data») (now image) × ColumnsFor s (now «data») (now columns)
+        × (s .kind ≡ 3 → ⊥) ⌝ }
     ensures { λ _. ⌜ now (image .exit) ≡ rowsRebuilt s (now («data» .entry)) 0 height (now (image .entry)) ⌝ }
 {
     let mut y = 0;
@@ -60,7 +61,8 @@ fn undo(chain: Chain, k: usize, data: &[u8], image: &mut [u8])
 // Tests 1 to 8, then the records.
 pub fn rebuild(width: usize, height: usize, chain: &[u8], data: &[u8], image: &mut [u8]) -> u32
     ensures { λ r. ⌜ r ≡ rebuildAnswer width height (now (chain .entry)) (now («data» .entry)) (now (image .entry)) ⌝ }
-    ensures { λ r. ⌜ now (image .exit) ≡ rebuildImage width height (now (chain .entry)) (now («data» .entry)) (now (image .entry)) ⌝ }
+    ensures { λ r. ⌜ now (image .exit) ≡ rebuildImage width height (now (chain .entry)) (now («data» .entry))
+        (now (image .entry)) ⌝ }
 {
     let read = read_chain(width, height, chain, data);
     if read.refusal != 0 {

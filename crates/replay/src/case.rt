@@ -65,7 +65,8 @@ pub fn single_of(header: &[u8; 16]) -> Single {
     }
 }
 
-// A chain of one record for a transform by itself. The header has kind, bits, size and length where a record has them, and the data starts at offset 0.
+// A chain of one record for a transform by itself. The header has kind, bits, size and length where a record has them,
+// and the data starts at offset 0.
 pub fn record_of(header: &[u8; 16]) -> [u8; 16] {
     [
         header[0],

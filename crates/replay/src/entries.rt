@@ -1,4 +1,5 @@
-// Whether a picture can be stored through a color table, by comparing each pixel with each entry: no code of the table's crate is asked.
+// Whether a picture can be stored through a color table, by comparing each pixel with each entry: no code of the
+// table's crate is asked.
 ghost use Prim.Native.Nat.{_*_, _≤_};
 ghost use lib.ListN.{length};
 

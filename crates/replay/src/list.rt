@@ -52,7 +52,8 @@ fn replay_parts(
     replay_pixels(c, record, data, input, output, image, strip)
 }
 
-// The parts that the case has filled, and two buffers for the work. What stands there beyond the input must not matter, so it is not zero.
+// The parts that the case has filled, and two buffers for the work. What stands there beyond the input must not matter,
+// so it is not zero.
 fn replay_filled(
     c: Single,
     record: &[u8; 16],
@@ -61,7 +62,8 @@ fn replay_filled(
     input: &[u8],
     output: &[u8],
 ) -> Outcome
-    requires { ⌜ (c .«data_len» ≤ length (now «data»)) × (c .«input_len» ≤ length (now input)) × (len ≤ length (now output)) × (len ≤ 16384) ⌝ }
+    requires { ⌜ (c .«data_len» ≤ length (now «data»)) × (c .«input_len» ≤ length (now input))
+        × (len ≤ length (now output)) × (len ≤ 16384) ⌝ }
 {
     let mut image = [165u8; 16384];
     let mut strip = [165u8; 16384];
@@ -109,7 +111,8 @@ fn replay_filled_call(
     input: &mut [u8],
     output: &[u8],
 ) -> Outcome
-    requires { ⌜ (c .«chain_len» ≤ length (now chain)) × (c .«data_len» ≤ length (now «data»)) × (c .«input_len» ≤ length (now input)) ⌝ }
+    requires { ⌜ (c .«chain_len» ≤ length (now chain)) × (c .«data_len» ≤ length (now «data»))
+        × (c .«input_len» ≤ length (now input)) ⌝ }
     requires { ⌜ (c .«output_len» ≤ length (now output)) × (c .«output_len» ≤ 16384) ⌝ }
 {
     let chain_len = c.chain_len;
@@ -191,7 +194,8 @@ fn replay_filled_list(
     strip: &mut [u8],
 ) -> Outcome
     requires { ⌜ (c .«chain_len» ≤ length (now chain)) × (c .«data_len» ≤ length (now «data»)) ⌝ }
-    requires { ⌜ (c .«input_len» ≤ length (now picture)) × (c .«output_len» ≤ length (now strip)) × (c .«input_len» ≤ 16384) × (c .«output_len» ≤ 16384) ⌝ }
+    requires { ⌜ (c .«input_len» ≤ length (now picture)) × (c .«output_len» ≤ length (now strip))
+        × (c .«input_len» ≤ 16384) × (c .«output_len» ≤ 16384) ⌝ }
 {
     let chain_len = c.chain_len;
     let data_len = c.data_len;
@@ -210,7 +214,8 @@ fn replay_filled_list(
     compare_both(&picture[0..n], &strip[0..m], same, refused)
 }
 
-// Reads what follows the header of a list of retouches. The header has the picture's length where other calls have the input's, the strip's where they have the output's.
+// Reads what follows the header of a list of retouches. The header has the picture's length where other calls have the
+// input's, the strip's where they have the output's.
 fn replay_list(header: &[u8; 16]) -> Outcome {
     let c = call_of(header);
     let mut chain = [0u8; 16384];

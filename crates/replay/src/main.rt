@@ -1,5 +1,5 @@
-// Replays the oracle's list from standard input by the exported calls: every case byte by byte against the oracle's answer, and transforms by themselves
-// stored back.
+// Replays the oracle's list from standard input by the exported calls: every case byte by byte against the oracle's
+// answer, and transforms by themselves stored back.
 mod calls;
 mod case;
 mod entries;
@@ -19,7 +19,8 @@ use tally::report_call;
 use tally::report_list;
 use tally::report_refused;
 
-// A proved loop has to end, and nothing says that an input does: the turns are counted down, from a number that no run uses up.
+// A proved loop has to end, and nothing says that an input does: the turns are counted down, from a number that no run
+// uses up.
 fn replay_all(
     cases: &mut [u64; 8],
     differences: &mut [u64; 8],
@@ -32,7 +33,8 @@ fn replay_all(
     }
 }
 
-// Replays the next case and counts it. Says whether to go on: not after a malformed case, since the next header is then not found.
+// Replays the next case and counts it. Says whether to go on: not after a malformed case, since the next header is then
+// not found.
 fn replay_counted(
     cases: &mut [u64; 8],
     differences: &mut [u64; 8],

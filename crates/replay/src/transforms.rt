@@ -1,5 +1,5 @@
-// A transform by itself, as a chain of one record: rebuilt from the input and compared with the output, then stored back. `image` and `strip` have the
-// output's length.
+// A transform by itself, as a chain of one record: rebuilt from the input and compared with the output, then stored
+// back. `image` and `strip` have the output's length.
 use crate::case::Single;
 use crate::entries::every_pixel_has_entry;
 use crate::sizes::packed_len;
@@ -58,8 +58,8 @@ pub fn replay_pixels(
     }
 }
 
-// Stores `image` and rebuilds it in `strip`: the pictures have to be the same. The strips need not be, since a pixel may have several indices. Where a
-// pixel has no entry, and only there, the answer has to be 21.
+// Stores `image` and rebuilds it in `strip`: the pictures have to be the same. The strips need not be, since a pixel
+// may have several indices. Where a pixel has no entry, and only there, the answer has to be 21.
 fn store_back(
     same: bool,
     c: Single,

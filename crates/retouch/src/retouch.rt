@@ -23,7 +23,8 @@ fn retouch_valid(
     requires { ⌜ Retouchable chain (now «data») (now picture) (now strip) point ⌝ }
     ensures { λ r. ⌜ r ≡ answerBy chain (now («data» .entry)) (now (picture .entry)) (now (strip .entry)) point ⌝ }
     ensures { λ r. ⌜ now (picture .exit) ≡ pictureLeft chain (now (picture .entry)) point r ⌝ }
-    ensures { λ r. ⌜ now (strip .exit) ≡ stripLeft chain (now («data» .entry)) (now (picture .entry)) (now (strip .entry))
+    ensures { λ r. ⌜ now (strip .exit) ≡ stripLeft chain (now («data» .entry)) (now (picture .entry))
+        (now (strip .entry))
         point r ⌝ }
 {
     let decision = decide(chain, data, picture, strip, point);

@@ -39,8 +39,8 @@ PackedRow s ds row row′ =
     (x : ℕ) → x < packedWidth (s .size) (s .width)
     → pixels row′ x ≡ packed (s .width) (s .size) (partOf s ds) (pixels row) x
 
--- a record has made row′ of row, and rows′ of rows: the predictor finds the row above in rows, and leaves the row there;
--- other records leave rows
+-- a record has made row′ of row, and rows′ of rows: the predictor finds the row above in rows, and leaves the row
+-- there; other records leave rows
 pub record Advanced (s : Step) (ds : List ℕ) (y : ℕ) (row rows row′ rows′ : List ℕ) : Type 0 where
   pub made : (f : Picture) → HoldsRow f y (s .width) row → (s .kind ≡ 0 → 1 ≤ y → HoldsRow f (y - 1) (s .width) rows)
       → HoldsRow (forward s ds f) y (narrowed s) row′

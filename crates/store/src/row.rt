@@ -63,8 +63,8 @@ pub fn pack_first(
     );
 }
 
-// Row y made ready in `row`: as it is in the picture, or packed where the first record is a table. The number of records
-// done is returned.
+// Row y made ready in `row`: as it is in the picture, or packed where the first record is a table. The number of
+// records done is returned.
 fn start_row(
     chain: Chain,
     m: usize,

@@ -1,4 +1,5 @@
-// The largest width and the largest table, and one more of each, where nothing else is at fault. Of the wide pictures the last pixel is shown.
+// The largest width and the largest table, and one more of each, where nothing else is at fault. Of the wide pictures
+// the last pixel is shown.
 use crate::calls::both;
 use crate::print::line;
 use letchwater::letchwater_rebuild;

@@ -1,5 +1,5 @@
-// The worked pictures of document 01 and of the format's text, run through the exported calls: a line for each call, with its number and the bytes that
-// came out.
+// The worked pictures of document 01 and of the format's text, run through the exported calls: a line for each call,
+// with its number and the bytes that came out.
 mod calls;
 mod chains;
 mod color_pictures;

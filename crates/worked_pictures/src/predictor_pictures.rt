@@ -30,7 +30,8 @@ pub fn borders() {
     );
 }
 
-// The last pixel is off the borders; its top right is the first of its own row. The strip's buffer is longer than needed.
+// The last pixel is off the borders; its top right is the first of its own row. The strip's buffer is longer than
+// needed.
 fn two_by_two(name: &[u8], mode: u8, residuals: [u8; 16]) {
     let data = [0, mode, 0, 255];
     let mut image = residuals;

@@ -2,7 +2,8 @@
 use crate::calls::both;
 use crate::chains::color_table;
 
-// 5 by 1 of three entries, packed into two pixels of four indices each: 228 is 0, 1, 2, 3 from the lowest bits up, and 254 starts with 2.
+// 5 by 1 of three entries, packed into two pixels of four indices each: 228 is 0, 1, 2, 3 from the lowest bits up, and
+// 254 starts with 2.
 fn five(name: &[u8], entries: &[u8; 12]) {
     let mut image = [165u8; 20];
     image[0] = 0;

@@ -10,7 +10,7 @@ ghost use Rattle.format.specs.Pixel.{pixel};
 ghost use Rattle.format.specs.Picture.{pixels};
 ghost use Rattle.format.specs.ColorTable.{packedWidth};
 ghost use Rattle.pixel.specs.Word.{unword};
-ghost use Rattle.color_table.specs.Pack.{Table, Row, Packs, Records, RecordFrom, rowIndices};
+ghost use Rattle.color_table.specs.Pack.{Table, Row, Packs, Records, RecordsBy, RecordFrom, rowIndices};
 
 // How a row of `width` pixels is packed by a table of `size` entries: n indices to a record, each below `range`.
 pub struct Packing {
@@ -71,7 +71,7 @@ pub fn pack_each(
 )
     requires { ⌜ Packs p (now entries) (now hints) (now row) ⌝ }
     requires { ⌜ (from ≤ to) × (to ≤ packedWidth (p .size) (p .width)) × (4 * to ≤ length (now out)) ⌝ }
-    ensures { λ _. ⌜ Records (p .width) (p .size) (now (entries .entry)) (now (row .entry)) from (to - from) (now (out .entry)) (now (out .exit)) ⌝ }
+    ensures { λ _. ⌜ RecordsBy p (now (entries .entry)) (now (row .entry)) from (to - from) (now (out .entry)) (now (out .exit)) ⌝ }
 {
     let mut j = from;
     while j < to {

@@ -19,7 +19,8 @@ fn unless(found: bool) -> u32
     if found { 0 } else { 1 }
 }
 
-// The index of an accepted pixel: how many of the first `top` entries, which are all or all but the last one, come before it.
+// The index of a pixel that has an entry: how many of the first `top` entries, which are all or all but the last one,
+// come before it.
 fn flat_index(w: u32, top: usize, entries: &[u8], size: usize) -> u32
     requires { ⌜ Few size (top + 1) (now entries) ⌝ }
     requires { ⌜ indexOf size (pixels (now entries)) (unword w) < size ⌝ }

@@ -12,13 +12,13 @@ ghost use Prim.Native.Nat.{_*_, _≤_};
 ghost use lib.ListN.{length};
 ghost use Rattle.format.specs.Picture.{pixels, written};
 ghost use Rattle.format.specs.ColorTable.{packedWidth, haveEntries, packed as packedOf};
-ghost use Rattle.color_table.specs.Pack.{Hints, Packs, Records};
+ghost use Rattle.color_table.specs.Pack.{Hints, Packs, RecordsBy};
 
 // The front of a row, by comparing, and how many records it is.
 fn pack_front(row: &[u8], out: &mut [u8], entries: &[u8], hints: &[u8], p: Packing) -> usize
     requires { ⌜ Packs p (now entries) (now hints) (now row) ⌝ }
     requires { ⌜ 4 * packedWidth (p .size) (p .width) ≤ length (now out) ⌝ }
-    ensures { λ r. ⌜ (r ≤ packedWidth (p .size) (p .width)) × Records (p .width) (p .size) (now (entries .entry)) (now (row .entry)) 0 r (now (out .entry)) (now (out .exit)) ⌝ }
+    ensures { λ r. ⌜ (r ≤ packedWidth (p .size) (p .width)) × RecordsBy p (now (entries .entry)) (now (row .entry)) 0 r (now (out .entry)) (now (out .exit)) ⌝ }
 {
     if p.n == 8 {
         pack_bits(row, p.width, out, entries, p.size)

@@ -1,5 +1,5 @@
-// Unpacking in place: the buffer's front holds the packed rows, and it becomes the expanded rows, from the bottom. A row's
-// columns go from the right, because one may lie where a packed pixel of the same row stands.
+// Unpacking in place: the buffer's front holds the packed rows, and it becomes the expanded rows, from the bottom. A
+// row's columns go from the right, because one may lie where a packed pixel of the same row stands.
 use crate::four::put_four;
 use crate::table::columns_of_table;
 use pixel::stride::Expanded;
@@ -9,16 +9,15 @@ use pixel::stride::per_pixel;
 use pixel::word::put_word;
 use pixel::word::word_at;
 ghost use mathlib.Core.Path.{_≡_};
-ghost use Prim.Native.Nat.{ℕ, _+_, _-_, _*_, _/_, _<_, _≤_};
+ghost use Prim.Native.Nat.{ℕ, _+_, _-_, _*_, _<_, _≤_};
 ghost use lib.ListN.{length};
 ghost use Rattle.format.specs.Picture.{Picture, pixels, written};
-ghost use Rattle.format.specs.ColorTable.{perPixel, packedWidth, entry, unpacked};
+ghost use Rattle.format.specs.ColorTable.{packedWidth, unpacked};
 ghost use Rattle.format.specs.Sizes.{Sized, Holds};
-ghost use Rattle.pixel.specs.Cells.{pixelCells, run, given};
 ghost use Rattle.pixel.specs.Stride.{Places};
 ghost use Rattle.pixel.specs.Word.{unword};
 ghost use Rattle.color_table.specs.Table.{ColumnsOf};
-ghost use Rattle.color_table.specs.Unpack.{rowOf, Columns, FourIn};
+ghost use Rattle.color_table.specs.Unpack.{rowOf, Columns, FourIn, Four, RowUnpacked};
 
 // The byte of packed pixel k.
 fn packed_byte(part: &[u8], k: usize) -> usize
@@ -63,7 +62,7 @@ fn unpack_fours(part: &mut [u8], first: usize, count: usize, n: usize, columns: 
 // Pixels j to j + 3 of `columns` as pixels i to i + 3.
 fn put_columns(part: &mut [u8], i: usize, columns: &[u8; 8192], j: usize)
     requires { ⌜ (4 * i + 16 ≤ length (now part)) × (j + 4 ≤ 2048) ⌝ }
-    ensures { λ _. ⌜ ((f : Picture) → FourIn f i j (now (columns .entry)) → now (part .exit) ≡ run pixelCells (given f) i 4 (now (part .entry))) ⌝ }
+    ensures { λ _. ⌜ ((f : Picture) → FourIn f i j (now (columns .entry)) → Four f i (now (part .entry)) (now (part .exit))) ⌝ }
 {
     let s = word_at(columns, j);
     let t = word_at(columns, j + 1);
@@ -150,7 +149,7 @@ pub fn unpack_row_at(
     columns: &[u8; 8192],
 )
     requires { ⌜ (1 ≤ expanded .0) × (packed .0 ≡ packedWidth size (expanded .0)) × (4 * (y * expanded .0 + expanded .0) ≤ length (now image)) ⌝ }
-    ensures { λ _. ⌜ ((e : Picture) → ColumnsOf (perPixel size) (entry size e) (now (columns .entry)) → now (image .exit) ≡ run pixelCells (given (unpacked (expanded .0) size e (pixels (now (image .entry))))) (y * expanded .0) (expanded .0) (now (image .entry))) ⌝ }
+    ensures { λ _. ⌜ RowUnpacked (expanded .0) size y (now (columns .entry)) (now (image .entry)) (now (image .exit)) ⌝ }
 {
     let c = packed.0;
     let w = expanded.0;

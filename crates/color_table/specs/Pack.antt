@@ -64,10 +64,13 @@ pub record Packs (p : Packing) (entries hints xs : List ℕ) : Type 0 where
 abbrev pub Records : ℕ → ℕ → List ℕ → List ℕ → ℕ → ℕ → List ℕ → List ℕ → Type 0
 Records w size entries row j m xs ys = ys ≡ run pixelCells (given (packed w size (pixels entries) (pixels row))) j m xs
 
+abbrev pub RecordsBy : Packing → List ℕ → List ℕ → ℕ → ℕ → List ℕ → List ℕ → Type 0
+RecordsBy p = Records (p .width) (p .size)
+
 -- the records of the groups of sixteen pixels from g up to r
 abbrev pub GroupsOf : Packing → List ℕ → List ℕ → ℕ → ℕ → List ℕ → List ℕ → Type 0
 GroupsOf p entries row g r xs ys =
-    Records (p .width) (p .size) entries row (g * (16 / p .n)) (r * (16 / p .n) - g * (16 / p .n)) xs ys
+    RecordsBy p entries row (g * (16 / p .n)) (r * (16 / p .n) - g * (16 / p .n)) xs ys
 
 -- the index of column a + k of a row f; 0 past its end
 unfoldable pub rowIndices : ℕ → ℕ → Picture → Picture → ℕ → ℕ → ℕ
@@ -95,3 +98,7 @@ pub record Filled (n g r groups : ℕ) (v p : Pixel) (f : Picture) (xs ys : List
   pub to : r ≤ groups
   pub all : (q : ℕ) → 16 * g ≤ q → q < 16 * r → f q ≡ v
   pub wrote : ys ≡ run pixelCells (given (plain p)) (g * (16 / n)) (r * (16 / n) - g * (16 / n)) xs
+
+-- the same of the last pixel
+abbrev pub FilledBy : ℕ → Last → ℕ → ℕ → List ℕ → List ℕ → List ℕ → Type 0
+FilledBy n last r groups row xs ys = Filled n (last .groups) r groups (unword (last .word)) (unword (last .packed)) (pixels row) xs ys

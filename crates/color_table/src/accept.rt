@@ -13,8 +13,8 @@ ghost use Rattle.format.specs.ColorTable.{hasEntry, haveEntries};
 ghost use Rattle.pixel.specs.Word.{unword};
 ghost use Rattle.color_table.specs.Pack.{Hints, Table, EachOf};
 
-// Whether each of the eight pixels from i on is a or b: with no branch, so that they are compared at once. A group is two of these, since a function of sixteen pixels
-// is not inlined.
+// Whether each of the eight pixels from i on is a or b: with no branch, so that they are compared at once. A group is
+// two of these, since a function of sixteen pixels is not inlined.
 pub fn eight_of(row: &[u8], i: usize, a: u32, b: u32) -> bool
     requires { ⌜ 4 * (i + 8) ≤ length (now row) ⌝ }
     ensures { λ r. ⌜ (r ≡ true → EachOf (unword a) (unword b) (pixels (now (row .entry))) i 8) ⌝ }
@@ -68,12 +68,13 @@ fn accept_each(
     true
 }
 
-// Whether each of the first i + 16 pixels has an entry, where those before i have and a has one. Most groups are the pixel before them, a, or that and one color more: one branch for both, so that
-// a change of color is not mispredicted.
+// Whether each of the first i + 16 pixels has an entry, where those before i have and a has one. Most groups are the
+// pixel before them, a, or that and one color more: one branch for both, so that a change of color is not mispredicted.
 fn accept_group(row: &[u8], i: usize, a: u32, entries: &[u8], size: usize, hints: &[u8]) -> bool
     requires { ⌜ Table size (now entries) (now hints) ⌝ }
     requires { ⌜ 4 * (i + 16) ≤ length (now row) ⌝ }
-    requires { ⌜ (haveEntries size (pixels (now entries)) i (pixels (now row)) ≡ true) × (hasEntry size (pixels (now entries)) (unword a) ≡ true) ⌝ }
+    requires { ⌜ (haveEntries size (pixels (now entries)) i (pixels (now row)) ≡ true)
+        × (hasEntry size (pixels (now entries)) (unword a) ≡ true) ⌝ }
     ensures { λ r. ⌜ r ≡ haveEntries size (pixels (now (entries .entry))) (i + 16) (pixels (now (row .entry))) ⌝ }
 {
     let c = word_at(row, i + 15);
@@ -84,7 +85,8 @@ fn accept_group(row: &[u8], i: usize, a: u32, entries: &[u8], size: usize, hints
     accept_each(row, i, i + 16, entries, size, hints)
 }
 
-// The same from the first pixel on, by groups. At first those of two entries are passed, so that no group of a picture of two colors is looked up.
+// The same from the first pixel on, by groups. At first those of two entries are passed, so that no group of a picture
+// of two colors is looked up.
 fn accept_groups(row: &[u8], count: usize, entries: &[u8], size: usize, hints: &[u8]) -> bool
     requires { ⌜ Table size (now entries) (now hints) ⌝ }
     requires { ⌜ (count % 16 ≡ 0) × (4 * count ≤ length (now row)) ⌝ }

@@ -10,7 +10,7 @@ ghost use Rattle.format.specs.Pixel.{pixel};
 ghost use Rattle.format.specs.Picture.{pixels};
 ghost use Rattle.format.specs.ColorTable.{packedWidth};
 ghost use Rattle.pixel.specs.Word.{unword};
-ghost use Rattle.color_table.specs.Pack.{Table, Row, Packs, Records, RecordFrom, rowIndices};
+ghost use Rattle.color_table.specs.Pack.{Table, Row, Packs, Records, RecordsBy, RecordFrom, rowIndices};
 
 // How a row of `width` pixels is packed by a table of `size` entries: n indices to a record, each below `range`.
 pub struct Packing {
@@ -31,7 +31,8 @@ pub fn record_of(b: u32) -> u32
 fn index_at(row: &[u8], a: usize, k: usize, entries: &[u8], hints: &[u8], p: Packing) -> usize
     requires { ⌜ Packs p (now entries) (now hints) (now row) ⌝ }
     requires { ⌜ a + k ≤ 1000000 ⌝ }
-    ensures { λ r. ⌜ (r ≡ rowIndices (p .width) (p .size) (pixels (now (entries .entry))) (pixels (now (row .entry))) a k) × (r < p .range) ⌝ }
+    ensures { λ r. ⌜ (r ≡ rowIndices (p .width) (p .size) (pixels (now (entries .entry)))
+        (pixels (now (row .entry))) a k) × (r < p .range) ⌝ }
 {
     let x = a + k;
     if x < p.width {
@@ -41,8 +42,8 @@ fn index_at(row: &[u8], a: usize, k: usize, entries: &[u8], hints: &[u8], p: Pac
     }
 }
 
-// The record whose indices start at column a, lowest first. A row has at most 16384 columns: the bound is any that keeps
-// sums in range.
+// The record whose indices start at column a, lowest first. A row has at most 16384 columns: the bound is any that
+// keeps sums in range.
 fn pack_record(row: &[u8], a: usize, entries: &[u8], hints: &[u8], p: Packing) -> u32
     requires { ⌜ Packs p (now entries) (now hints) (now row) ⌝ }
     requires { ⌜ a ≤ 900000 ⌝ }
@@ -71,7 +72,8 @@ pub fn pack_each(
 )
     requires { ⌜ Packs p (now entries) (now hints) (now row) ⌝ }
     requires { ⌜ (from ≤ to) × (to ≤ packedWidth (p .size) (p .width)) × (4 * to ≤ length (now out)) ⌝ }
-    ensures { λ _. ⌜ Records (p .width) (p .size) (now (entries .entry)) (now (row .entry)) from (to - from) (now (out .entry)) (now (out .exit)) ⌝ }
+    ensures { λ _. ⌜ RecordsBy p (now (entries .entry)) (now (row .entry)) from (to - from) (now (out .entry))
+        (now (out .exit)) ⌝ }
 {
     let mut j = from;
     while j < to {
@@ -94,7 +96,8 @@ pub fn pack_doubles(
     requires { ⌜ Table size (now entries) (now hints) ⌝ }
     requires { ⌜ Row size width 2 16 (now entries) (now row) ⌝ }
     requires { ⌜ (from ≤ to) × (2 * to ≤ width) × (4 * to ≤ length (now out)) ⌝ }
-    ensures { λ _. ⌜ Records width size (now (entries .entry)) (now (row .entry)) from (to - from) (now (out .entry)) (now (out .exit)) ⌝ }
+    ensures { λ _. ⌜ Records width size (now (entries .entry)) (now (row .entry)) from (to - from) (now (out .entry))
+        (now (out .exit)) ⌝ }
 {
     let mut j = from;
     while j < to {

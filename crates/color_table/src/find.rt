@@ -31,7 +31,8 @@ pub fn scan(entries: &[u8], size: usize, w: u32) -> usize
     size
 }
 
-// Two slots for w, so that two colors that share the first one are both found. Any slot is right, so that nothing is said of it but its range.
+// Two slots for w, so that two colors that share the first one are both found. Any slot is right, so that nothing is
+// said of it but its range.
 fn first_slot(w: u32) -> usize
     ensures { λ r. ⌜ r < 4096 ⌝ }
 {

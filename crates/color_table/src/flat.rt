@@ -1,5 +1,5 @@
-// Storing where a table has at most four entries: indices by comparing with each entry, with no branch, four records at a
-// time, so that they are compared at once.
+// Storing where a table has at most four entries: indices by comparing with each entry, with no branch, four records at
+// a time, so that they are compared at once.
 use crate::each::record_of;
 use crate::find::same;
 use crate::four::put_four;
@@ -19,7 +19,8 @@ fn unless(found: bool) -> u32
     if found { 0 } else { 1 }
 }
 
-// The index of an accepted pixel: how many of the first `top` entries, which are all or all but the last one, come before it.
+// The index of a pixel that has an entry: how many of the first `top` entries, which are all or all but the last one,
+// come before it.
 fn flat_index(w: u32, top: usize, entries: &[u8], size: usize) -> u32
     requires { ⌜ Few size (top + 1) (now entries) ⌝ }
     requires { ⌜ indexOf size (pixels (now entries)) (unword w) < size ⌝ }
@@ -67,7 +68,8 @@ pub fn put_pairs(row: &[u8], width: usize, out: &mut [u8], j: usize, entries: &[
     requires { ⌜ Few size 4 (now entries) ⌝ }
     requires { ⌜ Row size width 4 4 (now entries) (now row) ⌝ }
     requires { ⌜ (4 * (j + 4) ≤ width) × (4 * (j + 4) ≤ length (now out)) ⌝ }
-    ensures { λ _. ⌜ Records width size (now (entries .entry)) (now (row .entry)) j 4 (now (out .entry)) (now (out .exit)) ⌝ }
+    ensures { λ _. ⌜ Records width size (now (entries .entry)) (now (row .entry)) j 4 (now (out .entry))
+        (now (out .exit)) ⌝ }
 {
     put_four(
         out,
@@ -84,7 +86,8 @@ fn put_bits(row: &[u8], width: usize, out: &mut [u8], j: usize, entries: &[u8], 
     requires { ⌜ Few size 2 (now entries) ⌝ }
     requires { ⌜ Row size width 8 2 (now entries) (now row) ⌝ }
     requires { ⌜ (8 * (j + 4) ≤ width) × (4 * (j + 4) ≤ length (now out)) ⌝ }
-    ensures { λ _. ⌜ Records width size (now (entries .entry)) (now (row .entry)) j 4 (now (out .entry)) (now (out .exit)) ⌝ }
+    ensures { λ _. ⌜ Records width size (now (entries .entry)) (now (row .entry)) j 4 (now (out .entry))
+        (now (out .exit)) ⌝ }
 {
     put_four(
         out,
@@ -101,7 +104,8 @@ pub fn pack_bits(row: &[u8], width: usize, out: &mut [u8], entries: &[u8], size:
     requires { ⌜ Few size 2 (now entries) ⌝ }
     requires { ⌜ Row size width 8 2 (now entries) (now row) ⌝ }
     requires { ⌜ 4 * packedWidth size width ≤ length (now out) ⌝ }
-    ensures { λ r. ⌜ (r ≤ packedWidth size width) × Records width size (now (entries .entry)) (now (row .entry)) 0 r (now (out .entry)) (now (out .exit)) ⌝ }
+    ensures { λ r. ⌜ (r ≤ packedWidth size width)
+        × Records width size (now (entries .entry)) (now (row .entry)) 0 r (now (out .entry)) (now (out .exit)) ⌝ }
 {
     let to = width / 32 * 4;
     let mut j = 0;

@@ -1,4 +1,5 @@
-// Storing by runs: sixteen pixels at a time are compared with the one before them, and packed one by one only where they differ.
+// Storing by runs: sixteen pixels at a time are compared with the one before them, and packed one by one only where
+// they differ.
 use crate::accept::eight_of;
 use crate::each::Packing;
 use crate::each::pack_doubles;
@@ -16,7 +17,7 @@ ghost use Rattle.format.specs.ColorTable.{packedWidth};
 ghost use Rattle.pixel.specs.Cells.{pixelCells, run, given};
 ghost use Rattle.pixel.specs.Stride.{Places};
 ghost use Rattle.pixel.specs.Word.{unword};
-ghost use Rattle.color_table.specs.Pack.{Packs, Records, GroupsOf, LastOf, plain, Filled};
+ghost use Rattle.color_table.specs.Pack.{Packs, RecordsBy, GroupsOf, LastOf, plain, FilledBy};
 
 // One record m times.
 fn fill(out: &mut [u8], j: usize, m: usize, w: u32)
@@ -54,8 +55,9 @@ fn last_of(row: &[u8], groups: usize, x: usize, entries: &[u8], hints: &[u8], p:
 
 // The groups that are the last pixel again, and how many are packed then.
 fn fill_groups(row: &[u8], out: &mut [u8], groups: usize, n: usize, last: Last) -> usize
-    requires { ⌜ (1 ≤ n) × (last .groups ≤ groups) × (64 * groups ≤ length (now row)) × (4 * (groups * (16 / n)) ≤ length (now out)) ⌝ }
-    ensures { λ r. ⌜ Filled n (last .groups) r groups (unword (last .word)) (unword (last .packed)) (pixels (now (row .entry))) (now (out .entry)) (now (out .exit)) ⌝ }
+    requires { ⌜ (1 ≤ n) × (last .groups ≤ groups) × (64 * groups ≤ length (now row))
+        × (4 * (groups * (16 / n)) ≤ length (now out)) ⌝ }
+    ensures { λ r. ⌜ FilledBy n last r groups (now (row .entry)) (now (out .entry)) (now (out .exit)) ⌝ }
 {
     let m = 16 / n;
     let mut g = last.groups;
@@ -74,8 +76,9 @@ fn fill_groups(row: &[u8], out: &mut [u8], groups: usize, n: usize, last: Last) 
 // The same: in each arm n is a constant, for which the loop is compiled.
 fn fill_run(row: &[u8], out: &mut [u8], groups: usize, n: usize, last: Last) -> usize
     requires { ⌜ Places n ⌝ }
-    requires { ⌜ (last .groups ≤ groups) × (64 * groups ≤ length (now row)) × (4 * (groups * (16 / n)) ≤ length (now out)) ⌝ }
-    ensures { λ r. ⌜ Filled n (last .groups) r groups (unword (last .word)) (unword (last .packed)) (pixels (now (row .entry))) (now (out .entry)) (now (out .exit)) ⌝ }
+    requires { ⌜ (last .groups ≤ groups) × (64 * groups ≤ length (now row))
+        × (4 * (groups * (16 / n)) ≤ length (now out)) ⌝ }
+    ensures { λ r. ⌜ FilledBy n last r groups (now (row .entry)) (now (out .entry)) (now (out .exit)) ⌝ }
 {
     if n == 8 {
         fill_groups(row, out, groups, 8, last)
@@ -92,7 +95,8 @@ fn fill_run(row: &[u8], out: &mut [u8], groups: usize, n: usize, last: Last) -> 
 fn pack_group(row: &[u8], out: &mut [u8], g: usize, entries: &[u8], hints: &[u8], p: Packing)
     requires { ⌜ Packs p (now entries) (now hints) (now row) ⌝ }
     requires { ⌜ (16 * (g + 1) ≤ p .width) × (4 * ((g + 1) * (16 / p .n)) ≤ length (now out)) ⌝ }
-    ensures { λ _. ⌜ Records (p .width) (p .size) (now (entries .entry)) (now (row .entry)) (g * (16 / p .n)) (16 / p .n) (now (out .entry)) (now (out .exit)) ⌝ }
+    ensures { λ _. ⌜ RecordsBy p (now (entries .entry)) (now (row .entry)) (g * (16 / p .n)) (16 / p .n)
+        (now (out .entry)) (now (out .exit)) ⌝ }
 {
     if p.n == 4 {
         put_pairs(row, p.width, out, g * 4, entries, p.size);
@@ -117,9 +121,12 @@ fn pack_run(
     p: Packing,
 ) -> Last
     requires { ⌜ Packs p (now entries) (now hints) (now row) ⌝ }
-    requires { ⌜ (last .groups < groups) × (16 * groups ≤ p .width) × (4 * (groups * (16 / p .n)) ≤ length (now out)) ⌝ }
+    requires { ⌜ (last .groups < groups) × (16 * groups ≤ p .width)
+        × (4 * (groups * (16 / p .n)) ≤ length (now out)) ⌝ }
     requires { ⌜ LastOf p (now entries) last ⌝ }
-    ensures { λ r. ⌜ (last .groups < r .groups) × (r .groups ≤ groups) × LastOf p (now (entries .entry)) r × GroupsOf p (now (entries .entry)) (now (row .entry)) (last .groups) (r .groups) (now (out .entry)) (now (out .exit)) ⌝ }
+    ensures { λ r. ⌜ (last .groups < r .groups) × (r .groups ≤ groups) × LastOf p (now (entries .entry)) r
+        × GroupsOf p (now (entries .entry)) (now (row .entry)) (last .groups) (r .groups) (now (out .entry))
+        (now (out .exit)) ⌝ }
 {
     let g = fill_run(row, out, groups, p.n, last);
     if groups <= g {
@@ -137,7 +144,8 @@ fn pack_run(
 pub fn pack_runs(row: &[u8], out: &mut [u8], entries: &[u8], hints: &[u8], p: Packing) -> usize
     requires { ⌜ Packs p (now entries) (now hints) (now row) ⌝ }
     requires { ⌜ 4 * packedWidth (p .size) (p .width) ≤ length (now out) ⌝ }
-    ensures { λ r. ⌜ (r ≤ packedWidth (p .size) (p .width)) × Records (p .width) (p .size) (now (entries .entry)) (now (row .entry)) 0 r (now (out .entry)) (now (out .exit)) ⌝ }
+    ensures { λ r. ⌜ (r ≤ packedWidth (p .size) (p .width))
+        × RecordsBy p (now (entries .entry)) (now (row .entry)) 0 r (now (out .entry)) (now (out .exit)) ⌝ }
 {
     let groups = p.width / 16;
     let mut last = last_of(row, 0, 0, entries, hints, p);

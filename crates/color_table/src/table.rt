@@ -15,7 +15,8 @@ ghost use Rattle.color_table.specs.Table.{entryIn, TableOf, ColumnsOf};
 // One more than the largest index that a packed pixel can hold.
 pub fn index_range(size: usize) -> usize
     requires { ⌜ size ≤ 256 ⌝ }
-    ensures { λ r. ⌜ (r ≡ range (perPixel size)) × (1 ≤ r) × (size ≤ r) × (r ≤ 256) × (r ^ perPixel size ≡ 256) × (size ≤ 16 → r ≤ 16) ⌝ }
+    ensures { λ r. ⌜ (r ≡ range (perPixel size)) × (1 ≤ r) × (size ≤ r) × (r ≤ 256) × (r ^ perPixel size ≡ 256)
+        × (size ≤ 16 → r ≤ 16) ⌝ }
 {
     if size <= 2 {
         2

@@ -1,21 +1,23 @@
-// A row unpacked in place: the buffer's front holds the packed rows, and becomes the expanded ones row by row from the
-// bottom. A row's columns go from the right, because one may lie where a packed pixel of the same row stands.
+// Unpacking in place: the buffer's front holds the packed rows, and it becomes the expanded rows, from the bottom. A
+// row's columns go from the right, because one may lie where a packed pixel of the same row stands.
 use crate::four::put_four;
+use crate::table::columns_of_table;
 use pixel::stride::Expanded;
 use pixel::stride::Packed;
+use pixel::stride::packed_width;
 use pixel::stride::per_pixel;
 use pixel::word::put_word;
 use pixel::word::word_at;
 ghost use mathlib.Core.Path.{_≡_};
-ghost use Prim.Native.Nat.{ℕ, _+_, _-_, _*_, _/_, _<_, _≤_};
+ghost use Prim.Native.Nat.{ℕ, _+_, _-_, _*_, _<_, _≤_};
 ghost use lib.ListN.{length};
-ghost use Rattle.format.specs.Picture.{Picture, pixels};
-ghost use Rattle.format.specs.ColorTable.{perPixel, packedWidth, entry, unpacked};
-ghost use Rattle.pixel.specs.Cells.{pixelCells, run, given};
+ghost use Rattle.format.specs.Picture.{Picture, pixels, written};
+ghost use Rattle.format.specs.ColorTable.{packedWidth, unpacked};
+ghost use Rattle.format.specs.Sizes.{Sized, Holds};
 ghost use Rattle.pixel.specs.Stride.{Places};
 ghost use Rattle.pixel.specs.Word.{unword};
 ghost use Rattle.color_table.specs.Table.{ColumnsOf};
-ghost use Rattle.color_table.specs.Unpack.{rowOf, Columns, FourIn};
+ghost use Rattle.color_table.specs.Unpack.{rowOf, Columns, FourIn, Four, RowUnpacked};
 
 // The byte of packed pixel k.
 fn packed_byte(part: &[u8], k: usize) -> usize
@@ -28,7 +30,8 @@ fn packed_byte(part: &[u8], k: usize) -> usize
 // Column x of the row whose packed pixels `part` starts with.
 fn column_at(part: &[u8], x: usize, n: usize, columns: &[u8; 8192]) -> u32
     requires { ⌜ Places n × (4 * x + 4 ≤ length (now part)) ⌝ }
-    ensures { λ r. ⌜ ((e : Picture) (first : ℕ) → ColumnsOf n e (now (columns .entry)) → unword r ≡ rowOf n e (pixels (now (part .entry))) first (first + x)) ⌝ }
+    ensures { λ r. ⌜ ((e : Picture) (first : ℕ) → ColumnsOf n e (now (columns .entry)) → unword r
+        ≡ rowOf n e (pixels (now (part .entry))) first (first + x)) ⌝ }
 {
     word_at(columns, packed_byte(part, x / n) * n + x % n)
 }
@@ -60,7 +63,8 @@ fn unpack_fours(part: &mut [u8], first: usize, count: usize, n: usize, columns: 
 // Pixels j to j + 3 of `columns` as pixels i to i + 3.
 fn put_columns(part: &mut [u8], i: usize, columns: &[u8; 8192], j: usize)
     requires { ⌜ (4 * i + 16 ≤ length (now part)) × (j + 4 ≤ 2048) ⌝ }
-    ensures { λ _. ⌜ ((f : Picture) → FourIn f i j (now (columns .entry)) → now (part .exit) ≡ run pixelCells (given f) i 4 (now (part .entry))) ⌝ }
+    ensures { λ _. ⌜ ((f : Picture) → FourIn f i j (now (columns .entry))
+        → Four f i (now (part .entry)) (now (part .exit))) ⌝ }
 {
     let s = word_at(columns, j);
     let t = word_at(columns, j + 1);
@@ -118,7 +122,8 @@ fn unpack_rest(
     columns: &[u8; 8192],
 )
     requires { ⌜ Places n × (from ≤ width) × (4 * (first + width) ≤ length (now part)) ⌝ }
-    ensures { λ _. ⌜ Columns n (now (columns .entry)) first from (width - from) (now (part .entry)) (now (part .exit)) ⌝ }
+    ensures { λ _. ⌜ Columns n (now (columns .entry)) first from (width - from) (now (part .entry))
+        (now (part .exit)) ⌝ }
 {
     let mut x = width;
     while from < x {
@@ -146,12 +151,37 @@ pub fn unpack_row_at(
     size: usize,
     columns: &[u8; 8192],
 )
-    requires { ⌜ (1 ≤ expanded .0) × (packed .0 ≡ packedWidth size (expanded .0)) × (4 * (y * expanded .0 + expanded .0) ≤ length (now image)) ⌝ }
-    ensures { λ _. ⌜ ((e : Picture) → ColumnsOf (perPixel size) (entry size e) (now (columns .entry)) → now (image .exit) ≡ run pixelCells (given (unpacked (expanded .0) size e (pixels (now (image .entry))))) (y * expanded .0) (expanded .0) (now (image .entry))) ⌝ }
+    requires { ⌜ (1 ≤ expanded .0) × (packed .0 ≡ packedWidth size (expanded .0))
+        × (4 * (y * expanded .0 + expanded .0) ≤ length (now image)) ⌝ }
+    ensures { λ _. ⌜ RowUnpacked (expanded .0) size y (now (columns .entry)) (now (image .entry))
+        (now (image .exit)) ⌝ }
 {
     let c = packed.0;
     let w = expanded.0;
     let a = 4 * (y * c);
     let b = 4 * (y * w + w);
     unpack_row(&mut image[a..b], y * w - y * c, w, per_pixel(size), columns);
+}
+
+// The whole picture, in one buffer.
+pub fn apply_color_indexing_transform(
+    image: &mut [u8],
+    width: usize,
+    height: usize,
+    size: usize,
+    entries: &[u8],
+)
+    requires { ⌜ Sized width height ⌝ }
+    requires { ⌜ Holds width height (now image) ⌝ }
+    requires { ⌜ (1 ≤ size) × (size ≤ 256) × (4 * size ≤ length (now entries)) ⌝ }
+    ensures { λ _. ⌜ now (image .exit) ≡ written (height * width)
+        (unpacked width size (pixels (now (entries .entry))) (pixels (now (image .entry)))) (now (image .entry)) ⌝ }
+{
+    let columns = columns_of_table(entries, size);
+    let packed = packed_width(Expanded(width), size);
+    let mut y = height;
+    while 0 < y {
+        unpack_row_at(image, y - 1, packed, Expanded(width), size, &columns);
+        y -= 1;
+    }
 }

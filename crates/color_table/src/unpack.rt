@@ -1,19 +1,16 @@
-// Unpacking in place: the buffer's front holds the packed rows, and it becomes the expanded rows, from the bottom. A
-// row's columns go from the right, because one may lie where a packed pixel of the same row stands.
+// A row unpacked in place: the buffer's front holds the packed rows, and becomes the expanded ones row by row from the
+// bottom. A row's columns go from the right, because one may lie where a packed pixel of the same row stands.
 use crate::four::put_four;
-use crate::table::columns_of_table;
 use pixel::stride::Expanded;
 use pixel::stride::Packed;
-use pixel::stride::packed_width;
 use pixel::stride::per_pixel;
 use pixel::word::put_word;
 use pixel::word::word_at;
 ghost use mathlib.Core.Path.{_≡_};
 ghost use Prim.Native.Nat.{ℕ, _+_, _-_, _*_, _<_, _≤_};
 ghost use lib.ListN.{length};
-ghost use Rattle.format.specs.Picture.{Picture, pixels, written};
-ghost use Rattle.format.specs.ColorTable.{packedWidth, unpacked};
-ghost use Rattle.format.specs.Sizes.{Sized, Holds};
+ghost use Rattle.format.specs.Picture.{Picture, pixels};
+ghost use Rattle.format.specs.ColorTable.{packedWidth};
 ghost use Rattle.pixel.specs.Stride.{Places};
 ghost use Rattle.pixel.specs.Word.{unword};
 ghost use Rattle.color_table.specs.Table.{ColumnsOf};
@@ -161,27 +158,4 @@ pub fn unpack_row_at(
     let a = 4 * (y * c);
     let b = 4 * (y * w + w);
     unpack_row(&mut image[a..b], y * w - y * c, w, per_pixel(size), columns);
-}
-
-// The whole picture, in one buffer.
-pub fn apply_color_indexing_transform(
-    image: &mut [u8],
-    width: usize,
-    height: usize,
-    size: usize,
-    entries: &[u8],
-)
-    requires { ⌜ Sized width height ⌝ }
-    requires { ⌜ Holds width height (now image) ⌝ }
-    requires { ⌜ (1 ≤ size) × (size ≤ 256) × (4 * size ≤ length (now entries)) ⌝ }
-    ensures { λ _. ⌜ now (image .exit) ≡ written (height * width)
-        (unpacked width size (pixels (now (entries .entry))) (pixels (now (image .entry)))) (now (image .entry)) ⌝ }
-{
-    let columns = columns_of_table(entries, size);
-    let packed = packed_width(Expanded(width), size);
-    let mut y = height;
-    while 0 < y {
-        unpack_row_at(image, y - 1, packed, Expanded(width), size, &columns);
-        y -= 1;
-    }
 }

@@ -1,4 +1,5 @@
--- `spots_of` meets its contract: before each turn the spots are those after the first k records. A predictor meets one, since no other was before it.
+-- `spots_of` meets its contract: before each turn the spots are those after the first k records. A predictor meets one,
+-- since no other was before it.
 use mathlib.Core.List.{[], _∷_}
 use mathlib.Core.Path.{_≡_, refl}
 use Prim.Native.Nat.{_≤_, _-_}

@@ -12,7 +12,7 @@ use Rattle.format.proofs.Picture.{paint-at, paint-other}
 use Rattle.format.proofs.ByKind.{narrowed-table, narrowed-other}
 use Rattle.format.proofs.Stages.{narrowed-pos, narrowed-fewer}
 use Rattle.chain.specs.declared.Chain.{Chain}
-use Rattle.chain.specs.Valid.{Valid, HoldsPicture, stepsOf, widthAfter}
+use Rattle.chain.specs.Valid.{Valid, HoldsPicture, stepsOf}
 use Rattle.chain.proofs.Valid.{step-sized}
 use Rattle.item.specs.Neighbors.{BlockAt}
 use Rattle.item.specs.declared.Point.{Point}

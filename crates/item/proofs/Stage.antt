@@ -10,11 +10,11 @@ use Rattle.format.specs.declared.Step.{Step}
 use Rattle.format.specs.Byte.{sub}
 use Rattle.format.specs.Indices.{some}
 use Rattle.format.specs.Pixel.{each}
-use Rattle.format.specs.Picture.{Picture, block}
+use Rattle.format.specs.Picture.{Picture}
 use Rattle.format.specs.Predictor.{predicted, residuals}
 use Rattle.format.specs.Color.{transformColor, colorStored}
 use Rattle.format.specs.SubtractGreen.{subtractGreen, greenStored}
-use Rattle.format.specs.ColorTable.{perPixel, range, packedWidth, hasEntry, packed}
+use Rattle.format.specs.ColorTable.{perPixel, packedWidth, hasEntry, packed}
 use Rattle.format.specs.Stages.{partOf, stored}
 use Rattle.format.specs.Made.{named, madeOf, takesItem, missing, lost, made, madeItem}
 use Rattle.format.proofs.ByKind.{byKind-0, byKind-1, byKind-2, byKind-3, forward-0, forward-1, forward-2, forward-3}

@@ -11,7 +11,7 @@ use lib.Dec.{eqb}
 use lib.ListN.{length, getD, take}
 use Rattle.format.specs.Indices.{among}
 use Rattle.format.specs.declared.Pixel.{Pixel}
-use Rattle.format.specs.Picture.{Picture, pixels, paint}
+use Rattle.format.specs.Picture.{Picture, pixels}
 use Rattle.format.specs.Refusals.{accepted, _unless_}
 use Rattle.format.specs.Retouch.{maskOf, answer, remade, newStrip, changes, pointAnswer}
 use Rattle.format.proofs.Calls.{is-accepted}

@@ -92,10 +92,9 @@ pub fn spots_of(chain: Chain, p: usize) -> Spots
         records: [p, 0, 0, 0, 0],
         count: 1,
     };
-    let steps = chain.steps;
     let mut k = 0;
     while k < chain.count {
-        spots = follow(steps[k], spots);
+        spots = follow(chain.steps[k], spots);
         k += 1;
     }
     spots

@@ -1,5 +1,6 @@
--- The proof of the calls that item, neighbor, packed and residual make of each other. An item after k records asks for items after k - 1, by way of a record's n columns or of
--- a residual's neighbors. A record has at most 8 columns, so that 16 * k leaves room for the calls between.
+-- The proof of the calls that item, neighbor, packed and residual make of each other. An item after k records asks for
+-- items after k - 1, by way of a record's n columns or of a residual's neighbors. A record has at most 8 columns, so
+-- that 16 * k leaves room for the calls between.
 use mathlib.Core.Path.{ap, _∙_}
 use Prim.Native.Nat.{ℕ, _+_, _-_, _*_, _<_}
 use native.Mathlib.Omega.{arith}

@@ -1,6 +1,6 @@
 -- Rows: columns from the right, a row in its part of the picture, rows from the bottom.
 use mathlib.Core.List.{List}
-use mathlib.Core.Path.{_≡_, refl, sym, ap, _∙_}
+use mathlib.Core.Path.{_≡_, sym, ap, _∙_}
 use Prim.Native.Nat.{ℕ, suc, _+_, _-_, _*_, _/_, _%_, _<_, _≤_}
 use native.Mathlib.Nat.{add-zero, mod-lt, mul-le-mul-left, mul-le-mul-right, mul-one, suc-mul, div-le-self, div-le-of-le-mul}
 use native.Mathlib.Omega.{arith}

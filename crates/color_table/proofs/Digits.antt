@@ -5,7 +5,7 @@ use mathlib.Core.Path.{_≡_, refl, sym, ap, _∙_}
 use Prim.Native.Nat.{ℕ, zero, suc, _+_, _-_, _*_, _/_, _^_, _<_, _≤_}
 use native.Mathlib.Nat.{add-assoc, mul-add, mul-assoc, one-mul, pow-zero, pow-suc, pow-succ', pow-le-pow-right, mul-le-mul, mul-le-mul-left, mul-suc}
 use native.Mathlib.Omega.{arith}
-use borrow.Author.Tests.{leb-true, leb-false, le-leb, lt-leb}
+use borrow.Author.Tests.{leb-true, leb-false}
 use lib.Dec.{leb, lit<}
 use lib.ListN.{length}
 use Rattle.format.specs.Choice.{if_then_else_}

@@ -1,5 +1,4 @@
 -- `pack_row` meets its contract.
-use mathlib.Core.Path.{_∙_}
 use borrow.Author.Needs.{needs}
 use Rattle.color_table.proofs.pack.pack_row.Statement.{statement}
 use Rattle.color_table.proofs.pack.pack_row.Tie as tie

@@ -4,11 +4,8 @@ use Prim.Native.Nat.{_≤_, _-_, _*_, _/_}
 use native.Mathlib.Omega.{arith}
 use borrow.Author.Needs.{needs}
 use lib.ListN.{length}
-use Rattle.format.specs.Picture.{pixels}
-use Rattle.format.specs.ColorTable.{perPixel, packedWidth, packed}
+use Rattle.format.specs.ColorTable.{perPixel, packedWidth}
 use Rattle.format.proofs.ColorTable.{perPixel-pos}
-use Rattle.pixel.specs.Cells.{pixelCells, run, given}
-use Rattle.pixel.specs.Word.{unword}
 use Rattle.pixel.proofs.Rows.{no-rows}
 use Rattle.color_table.specs.Pack.{Records, LastOf}
 use Rattle.color_table.proofs.Rows.{packed-fewer}

@@ -62,18 +62,18 @@ index-digit n b k = rw (pow-times (8 / n) k) refl
 
 -- how many indices go into a byte
 
-pub record Places (size n : ℕ) : Type 0 where
+pub record Bundled (size n : ℕ) : Type 0 where
   pub fits : size ≤ range n
   pub whole : range n ^ n ≡ 256
   pub some : 0 < range n
   pub many : 0 < n
 
-pub places : (size : ℕ) → size ≤ 256 → Places size (perPixel size)
+pub bundled : (size : ℕ) → size ≤ 256 → Bundled size (perPixel size)
 unfolding perPixel
-places size l =
+bundled size l =
     go (leb size 2) (leb size 4) (leb size 16) (leb-true size 2) (leb-true size 4) (leb-true size 16)
   where
-    go : (a b c : Bool) → (a ≡ true → size ≤ 2) → (b ≡ true → size ≤ 4) → (c ≡ true → size ≤ 16) → Places size (if a then 8 else if b then 4 else if c then 2 else 1)
+    go : (a b c : Bool) → (a ≡ true → size ≤ 2) → (b ≡ true → size ≤ 4) → (c ≡ true → size ≤ 16) → Bundled size (if a then 8 else if b then 4 else if c then 2 else 1)
     go true b c x y z = record { fits = x refl; whole = refl; some = lit< tt; many = lit< tt }
     go false true c x y z = record { fits = y refl; whole = refl; some = lit< tt; many = lit< tt }
     go false false true x y z = record { fits = z refl; whole = refl; some = lit< tt; many = lit< tt }
@@ -128,8 +128,8 @@ module _ (w h size : ℕ) (e f : Picture) (pos : 0 < w) (least : size ≤ 256) (
   digit-small y l x = go (ltb x w) (ltb-true x w)
     where
       go : (b : Bool) → (b ≡ true → x < w) → (if b then indexOf size e (f (y * w + x)) else 0) < range n
-      go true t = lt-of-lt-of-le (index-below (y * w + x) (digits-lt l (t refl))) (places size least .fits)
-      go false t = places size least .some
+      go true t = lt-of-lt-of-le (index-below (y * w + x) (digits-lt l (t refl))) (bundled size least .fits)
+      go false t = bundled size least .some
 
   pub entry-at-index : (q : ℕ) → q < h * w → entry size e (indexOf size e (f q)) ≡ f q
   entry-at-index q l = rw (lt-ltb (indexOf size e (f q)) size (index-below q l)) (lowest-hit e (f q) size 0 (rw (zero-add size) (index-below q l)))
@@ -157,7 +157,7 @@ module _ (w h size : ℕ) (e f : Picture) (pos : 0 < w) (least : size ≤ 256) (
       found =
           index-digit n (packed w size e f (y * packedWidth size w + x / n) .green) (x % n)
           ∙ rw (digits-div y column, digits-mod y column)
-          (digit (range n) (places size least .some) n (λ k. indexAt w size e f y (x / n * n + k)) (x % n) (λ k m. digit-small y below (x / n * n + k)) (mod-lt x (perPixel-pos size))
+          (digit (range n) (bundled size least .some) n (λ k. indexAt w size e f y (x / n * n + k)) (x % n) (λ k m. digit-small y below (x / n * n + k)) (mod-lt x (perPixel-pos size))
           ∙ rw (div-add-mod' x n, lt-ltb x w inside) (ap (λ (z : ℕ). indexOf size e (f z)) (div-add-mod' q w)))
 
 -- a packed byte is a byte
@@ -178,5 +178,5 @@ module _ (w h size : ℕ) (e f : Picture) (pos : 0 < w) (least : size ≤ 256) (
       let u = perPixel size in
       let y = r / packedWidth size w in
       let below : y < h = div-lt-iff-lt-mul (ceiling-pos w u pos (perPixel-pos size)) .1 l in
-      let b = digits-below (range u) (places size least .some) u (λ k. indexAt w size e f y (r % packedWidth size w * u + k)) (λ k m. digit-small w h size e f pos least taken y below (r % packedWidth size w * u + k)) in
-      rw (places size least .whole) at b
+      let b = digits-below (range u) (bundled size least .some) u (λ k. indexAt w size e f y (r % packedWidth size w * u + k)) (λ k m. digit-small w h size e f pos least taken y below (r % packedWidth size w * u + k)) in
+      rw (bundled size least .whole) at b

@@ -3,6 +3,7 @@
 use color_map::adjust_color_map;
 use color_map::unadjust_color_map;
 use format::Pixel;
+use item::place::Place;
 use rebuild::rebuild;
 use retouch::retouch::retouch;
 use store::store::store;
@@ -75,6 +76,10 @@ pub extern "C" fn letchwater_retouch(
         blue: b,
         alpha: a,
     };
+    let at = Place {
+        x: x as usize,
+        y: y as usize,
+    };
     retouch(
         width as usize,
         height as usize,
@@ -82,8 +87,7 @@ pub extern "C" fn letchwater_retouch(
         data,
         picture,
         strip,
-        x as usize,
-        y as usize,
+        at,
         color,
     )
 }

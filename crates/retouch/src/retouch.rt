@@ -6,6 +6,7 @@ use chain::Chain;
 use chain::open;
 use format::Pixel;
 use item::Point;
+use item::place::Place;
 use item::place::expanded_index;
 use pixel::pixel::put_pixel;
 ghost use mathlib.Core.Path.{_≡_};
@@ -46,29 +47,28 @@ pub fn retouch(
     data: &[u8],
     picture: &mut [u8],
     strip: &mut [u8],
-    x: usize,
-    y: usize,
+    at: Place,
     color: Pixel,
 ) -> u32
     ensures { λ r. ⌜ r ≡ retouchAnswer width height (now (chain .entry)) (now («data» .entry))
-        (now (picture .entry)) (now (strip .entry)) x y color ⌝ }
+        (now (picture .entry)) (now (strip .entry)) (at .x) (at .y) color ⌝ }
     ensures { λ r. ⌜ now (picture .exit) ≡ retouchPicture width height (now (chain .entry)) (now («data» .entry))
-        (now (picture .entry)) (now (strip .entry)) x y color ⌝ }
+        (now (picture .entry)) (now (strip .entry)) (at .x) (at .y) color ⌝ }
     ensures { λ r. ⌜ now (strip .exit) ≡ retouchStrip width height (now (chain .entry)) (now («data» .entry))
-        (now (picture .entry)) (now (strip .entry)) x y color ⌝ }
+        (now (picture .entry)) (now (strip .entry)) (at .x) (at .y) color ⌝ }
 {
     let opened = open(width, height, chain, data, picture, strip);
     if opened.refusal != 0 {
         return opened.refusal;
     }
-    if width <= x {
+    if width <= at.x {
         return 9;
     }
-    if height <= y {
+    if height <= at.y {
         return 9;
     }
     let point = Point {
-        index: expanded_index(x, y, opened.width),
+        index: expanded_index(at.x, at.y, opened.width),
         color,
     };
     retouch_valid(opened, data, picture, strip, point)

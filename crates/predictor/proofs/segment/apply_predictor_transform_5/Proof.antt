@@ -1,20 +1,16 @@
 -- `apply_predictor_transform_5` meets its contract: before each turn the pixels up to i are rebuilt, and `left` is the last of them.
-use mathlib.Core.Path.{_≡_, refl, _∙_}
-use Prim.Native.Nat.{_≤_, _-_}
+use mathlib.Core.Path.{refl}
+use Prim.Native.Nat.{_-_}
 use borrow.Author.Needs.{needs}
 use native.Mathlib.Omega.{arith}
-use lib.ListN.{length}
-use Rattle.format.specs.Picture.{pixels}
-use Rattle.pixel.specs.Cells.{pixelCells, run}
 use Rattle.pixel.proofs.Cells.{run-none, run-done}
-use Rattle.predictor.specs.Row.{around, gains}
-use Rattle.predictor.proofs.Turn.{left-next, run-turn}
+use Rattle.predictor.specs.Row.{around}
+use Rattle.predictor.proofs.Turn.{Carried, carried-next}
 use Rattle.predictor.proofs.segment.apply_predictor_transform_5.Statement.{statement}
 use Rattle.predictor.proofs.segment.apply_predictor_transform_5.Tie as tie
 
 abbrev Inv-loop : tie.InvT-loop
-Inv-loop rows₀ w from to left₀ i₀ rows left i =
-    (from ≤ i) × (i ≤ to) × (length rows ≡ length rows₀) × (rows ≡ run pixelCells (gains (around 5 w)) from (i - from) rows₀) × (left ≡ pixels rows (i - 1))
+Inv-loop rows₀ w from to left₀ i₀ rows left i = Carried (around 5 w) from to rows₀ rows left i
 
 abbrev μ-loop : tie.MeasureT-loop
 μ-loop rows₀ w from to left₀ i₀ rows left i = to - i
@@ -33,13 +29,7 @@ apply-predictor-transform-5-spec =
     (λ c. omega arith)
     (λ c. omega arith)
     (λ c.
-    let l = c .before .before .before .before .before .before .before .loop in
-    let p = c .before .before .put-pixel in (
-      omega arith,
-      omega arith,
-      p .kept .0 ∙ l .inv .2,
-      run-turn _ _ _ _ _ _ _ (l .inv .3) (c .before .before .before .before .gain-5 .ensures) (p .ensures) (l .inv .0),
-      left-next _ _ _ _ (p .ensures) (omega arith),
-    ))
+    let b = c .before .before in
+    carried-next _ _ _ _ _ _ _ _ _ (b .before .before .before .before .before .loop .inv) (b .before .before .gain-5 .ensures) (b .put-pixel .ensures) (b .put-pixel .kept .0) (omega arith) (omega arith))
     (λ c. search needs)
     (λ c. run-done _ _ _ _ _ _ _ (omega arith) (omega arith) (c .before .loop .inv .3)))

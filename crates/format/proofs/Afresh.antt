@@ -1,5 +1,6 @@
--- Any set of changed pixels: where a strip is a picture stored, making afresh the records of the changed pixels' spots makes the changed picture's
--- strip, and the marks of those that changed count every record in which the two strips differ. ps are the changed pixels.
+-- Any set of changed pixels: where a strip is a picture stored, making afresh the records of the changed pixels' spots
+-- makes the changed picture's strip, and the marks of those that changed count every record in which the two strips
+-- differ. ps are the changed pixels.
 use mathlib.Core.Bool.{Bool, true, false, not, _&&_, false≢true}
 use mathlib.Core.List.{List, []}
 use mathlib.Core.Path.{_≡_, refl, sym, ap, _∙_}

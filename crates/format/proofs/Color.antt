@@ -1,5 +1,5 @@
--- Laws of the color transform: the two directions undo each other on bytes. Blue's deltas are the same, since rebuilding takes the new red, which is
--- the unreduced red of storing.
+-- Laws of the color transform: the two directions undo each other on bytes. Blue's deltas are the same, since
+-- rebuilding takes the new red, which is the unreduced red of storing.
 use mathlib.Core.Path.{_≡_, ap, _∙_}
 use Prim.Native.Nat.{ℕ, _%_, _<_, _/_}
 use native.Mathlib.Omega.{arith}

@@ -1,4 +1,5 @@
--- Laws of the color table: what was packed is found again, digit by digit, and the entry at a pixel's index is that pixel.
+-- Laws of the color table: what was packed is found again, digit by digit, and the entry at a pixel's index is that
+-- pixel.
 use mathlib.Core.Bool.{Bool, true, false}
 use mathlib.Core.Path.{_≡_, refl, sym, ap, _∙_}
 use Prim.Native.Nat.{ℕ, zero, suc, _+_, _*_, _/_, _%_, _^_, _<_, _≤_}

@@ -16,8 +16,9 @@ use Rattle.format.specs.Retouch.{differ, marks, maskOf}
 use Rattle.format.specs.Calls.{records, rebuildAnswer, rebuildImage, storeAnswer, storeStrip, touched}
 use Rattle.format.specs.Lists.{leftBy}
 use Rattle.format.specs.Desk.{Retouch, Buffers, desk, callLeaves}
-use Rattle.format.specs.Promises.{SameFront, Admitted, RebuildingExactly, StoringExactly, RebuildingAnswers, StoringAnswers, RetouchingAnswers, RebuildingRefused, StoringRefused, RetouchingRefused, RebuildsStored, StoresRebuilt, StoredPair, OneCall, left, paintedInTurn, RetouchesLikeDesk, ColorMapAnswers, ColorMapRefused}
+use Rattle.format.specs.Promises.{SameFront, Admitted, RebuildingExactly, StoringExactly, RebuildingAnswers, StoringAnswers, RetouchingAnswers, RebuildingRefused, StoringRefused, RetouchingRefused, RebuildsStored, StoresRebuilt, StoredPair, OneCall, left, paintedInTurn, RetouchesLikeDesk, ColorMapAnswers, ColorMapUndone, ColorMapRefused}
 use Rattle.format.proofs.Picture.{written-same}
+use Rattle.format.proofs.RoundTrips.{map-adjusted, map-unadjusted}
 use Rattle.format.proofs.Written.{bytes-pixels, pixels-written}
 use Rattle.format.proofs.Inside.{Alike}
 use Rattle.format.proofs.Stages.{stored-same, rebuilt-same}
@@ -49,6 +50,9 @@ color-map-refused map n = go (refused (length map)) n
     go true d = (refl, refl)
     go false d = absurd (true≢false d)
 
+pub color-map-undone : ColorMapUndone
+color-map-undone map bytes = (map-adjusted map bytes, map-unadjusted map bytes)
+
 -- a front that was written is what was written there
 front-written : (n : ℕ) (f : Picture) (xs ys zs : List ℕ) → SameFront n xs ys → ys ≡ written n f zs → Alike n (pixels xs) f
 front-written n f xs ys zs front e q l = front q l ∙ ap (λ (bs : List ℕ). pixels bs q) e ∙ pixels-written n f zs q l
@@ -78,8 +82,8 @@ module _ (w h : ℕ) (cs ds : List ℕ) where
 
   pub storing-exactly : StoringExactly w h cs ds
   storing-exactly picture strip = (
-    λ e. let a = store-accepted w h cs ds picture strip e in (admitted .0 (a .0), (a .1, a .2), a .3),
-    λ a. store-accepts w h cs ds picture strip (admitted .1 (a .0)) (a .1 .0) (a .1 .1) (a .2),
+    λ e. let a = store-accepted w h cs ds picture strip e in (admitted .0 (a .0), a .1, a .2, a .3),
+    λ a. store-accepts w h cs ds picture strip (admitted .1 (a .0)) (a .1) (a .2) (a .3),
   )
 
   pub rebuilds-stored : RebuildsStored w h cs ds

@@ -1,5 +1,5 @@
--- The worked pictures of document 01 that are marked with a star, in one table: what the definitions compute, and what the paper says. Pictures are rebuilt and stored by
--- the calls' definitions, with the bytes of a chain.
+-- The worked pictures of document 01 that are marked with a star, in one table: what the definitions compute, and what
+-- the paper says. Pictures are rebuilt and stored by the calls' definitions, with the bytes of a chain.
 use mathlib.Core.List.{List, [], _∷_, _++_, map}
 use mathlib.Core.Path.{_≡_, refl}
 use Prim.Native.Nat.{ℕ}

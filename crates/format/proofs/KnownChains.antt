@@ -48,7 +48,8 @@ worked =
     ∷ (storeStrip 2 2 (recordOf 0 2 0 8 4) (inGreen (1 ∷ 2 ∷ 4 ∷ [])) small (zeros 4)
     is residues (1 ∷ 1 ∷ 3 ∷ 8 ∷ []))
     ∷ (storeStrip 2 2 (set 5 1 predictor) (bytes 256 ++ mode 2) small (zeros 4) is residues (1 ∷ 1 ∷ 3 ∷ 7 ∷ []))
-    -- two records: storing does the first one first, rebuilding the last one first; deltas are rounded, so the order shows
+    -- two records: storing does the first one first, rebuilding the last one first; deltas are rounded, so the order
+    -- shows
     ∷ (storeStrip 2 1 (predictor ++ color) shared two (zeros 2) is 219 ∷ 40 ∷ 225 ∷ 2 ∷ 64 ∷ 110 ∷ 200 ∷ 5 ∷ [])
     ∷ (storeStrip 2 1 (color ++ predictor) shared two (zeros 2) is 219 ∷ 40 ∷ 225 ∷ 2 ∷ 104 ∷ 110 ∷ 7 ∷ 5 ∷ [])
     ∷ (rebuildImage 2 1 (predictor ++ color) shared two is 55 ∷ 40 ∷ 188 ∷ 0 ∷ 132 ∷ 190 ∷ 175 ∷ 6 ∷ [])

@@ -118,7 +118,8 @@ worked =
     -- 3 by 3, mode 10, the top row's middle painted: of its five spots one, in column 0, keeps its record
     (answerOver (zeros 9) ∷ [] is 411 ∷ [])
     ∷ (stripOver (zeros 9) is residues (0 ∷ 128 ∷ 128 ∷ 0 ∷ 224 ∷ 224 ∷ 0 ∷ 0 ∷ 0 ∷ []))
-    -- a record wrong before, of those right after: each spot's own bit, whichever its wrong byte; others are not written
+    -- a record wrong before, of those right after: each spot's own bit, whichever its wrong byte; others are not
+    -- written
     ∷ (wrongOnes is 256 ∷ 289 ∷ 290 ∷ 292 ∷ 296 ∷ 304 ∷ 256 ∷ 256 ∷ 256 ∷ [])
     ∷ (answerOver (set 4 1 after) ∷ answerOver (set 5 1 after) ∷ answerOver (set 6 1 after) ∷ answerOver (set 7 1 after)
     ∷ []
@@ -197,7 +198,8 @@ worked =
     ∷ (naming 14 2 1 is [])
     ∷ (naming 16 2 1 is [])
     ∷ (naming 255 2 1 is [])
-    -- by the border rules: the first pixel names none, row 0 names L, column 0 names T; TR of the last column is column 0
+    -- by the border rules: the first pixel names none, row 0 names L, column 0 names T; TR of the last column is column
+    -- 0
     ∷ (naming 10 0 0 is [])
     ∷ (naming 10 2 0 is 1 ∷ [])
     ∷ (naming 10 0 2 is 5 ∷ [])
@@ -205,13 +207,14 @@ worked =
     -- a record that can be made, and one that cannot
     ∷ (madeNumber (making 0) ∷ madeNumber (making 1) ∷ [] is 0 ∷ 22 ∷ [])
     ∷ (itemOf (making 0) ++ itemOf (making 1) is 0 ∷ 16 ∷ 0 ∷ 255 ∷ [])
-    -- 22, the table before the predictor: of the first ten pixels of 5 by 3 these, lacking an entry, refuse a retouch of the
-    -- middle one: 8 in a spot's record and, in mode 9, those that a spot's prediction names
+    -- 22, the table before the predictor: of the first ten pixels of 5 by 3 these, lacking an entry, refuse a retouch
+    -- of the middle one: 8 in a spot's record and, in mode 9, those that a spot's prediction names
     ∷ (lackingFor 9 is 2 ∷ 3 ∷ 4 ∷ 6 ∷ 8 ∷ 9 ∷ [])
     -- two indices to a record: mode 1 names the packed pixel on the left, with both its pixels; mode 14 none
     ∷ (lackingIn 1 4 1 is 8 ∷ 9 ∷ 11 ∷ [])
     ∷ (lackingIn 14 4 1 is 11 ∷ [])
-    -- the predictor before the table: the residuals of a spot's record count, those of row 0's record not for a spot in row 1
+    -- the predictor before the table: the residuals of a spot's record count, those of row 0's record not for a spot in
+    -- row 1
     ∷ (residualsOver (inRed (0 ∷ 0 ∷ 0 ∷ 0 ∷ 0 ∷ 0 ∷ 0 ∷ 5 ∷ [])) 0 0
     ∷ residualsOver (inRed (5 ∷ 0 ∷ 0 ∷ 0 ∷ 0 ∷ 0 ∷ 0 ∷ 0 ∷ [])) 3 1
     ∷ residualsOver (inRed (0 ∷ 0 ∷ 0 ∷ 5 ∷ 0 ∷ 0 ∷ 0 ∷ 0 ∷ [])) 3 1 ∷ []

@@ -18,7 +18,8 @@ module _ {S T C : Type 0} (m : Machine S C) (n : Machine T C) (R : S → T → T
       let b = related calls (m .leave s c) (n .leave t c) (a .1) in
       (cc (a .0, b .0), b .1)
 
--- where an accepted call makes its change and a refused one none, a list leaves what the accepted calls' changes make in turn
+-- where an accepted call makes its change and a refused one none, a list leaves what the accepted calls' changes make
+-- in turn
 module _ {S C : Type 0} (m : Machine S C) (change : S → C → S)
     (leaves : (s : S) (c : C) → m .leave s c ≡ (if accepted (m .answer s c) then change s c else s)) where
   pub left-accepted : (calls : List C) (s : S) → leftBy m s calls ≡ inTurn change s (acceptedCalls (answersTo m s calls) calls)

@@ -1,4 +1,5 @@
--- A change stays in its spots: pictures that agree away from some pixels make stages that agree away from the spots of those pixels.
+-- A change stays in its spots: pictures that agree away from some pixels make stages that agree away from the spots of
+-- those pixels.
 use mathlib.Core.List.{List, [], _∷_, List·Memᴰ·head, List·Memᴰ·tail}
 use mathlib.Core.Path.{_≡_, refl, sym, ap}
 use Prim.Native.Nat.{ℕ, zero, suc, _+_, _-_, _*_, _/_, _%_, _<_, _≤_}

@@ -1,4 +1,5 @@
--- What an item is made of is inside its stage, and every item is looked at by one of its spots. So refusal 22 is exact, though it looks at the spots of changed pixels alone.
+-- What an item is made of is inside its stage, and every item is looked at by one of its spots. So refusal 22 is exact,
+-- though it looks at the spots of changed pixels alone.
 use mathlib.Core.Bool.{Bool, true, false, not, _&&_, _||_, false≢true, true≢false}
 use mathlib.Core.List.{List, [], _∷_, List·Memᴰ·head, List·Memᴰ·tail}
 use mathlib.Core.Logic.{⊎-elim}
@@ -278,7 +279,8 @@ module _ (steps : ℕ → Step) (widths : ℕ → ℕ) (h : ℕ) (ds : List ℕ)
 -- a valid chain
 
 module _ (w h : ℕ) (cs ds : List ℕ) (valid : inputRefusal w h cs ds ≡ 0) where
-  -- refusal 22 is exact: from an accepted picture, one of the records of the changed pixels cannot be made exactly if storing does not accept the changed picture
+  -- refusal 22 is exact: from an accepted picture, one of the records of the changed pixels cannot be made exactly if
+  -- storing does not accept the changed picture
   pub unmade-exact : (ps : List ℕ) (f g : Picture) → Off ps f g → accepts (stepAt cs w) h ds (count cs) f ≡ true
       → unmade (stepAt cs w) ds (count cs) (records w h cs) g (spotRecords (stepAt cs w) (count cs) ps) ≡ not (accepts (stepAt cs w) h ds (count cs) g)
   unmade-exact ps f g off a = unmade-steps (stepAt cs w) (widthAt cs w) h ds ps f g off (count cs) (valid-fits w h cs ds valid) a

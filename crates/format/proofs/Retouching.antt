@@ -1,4 +1,5 @@
--- A retouch answers and leaves what the plain desk does, where the strip is the picture stored; so every list of retouches does (Lists).
+-- A retouch answers and leaves what the plain desk does, where the strip is the picture stored; so every list of
+-- retouches does (Lists).
 use mathlib.Core.Bool.{Bool, true, false, not, _&&_, false≢true}
 use mathlib.Core.List.{List, [], _∷_}
 use mathlib.Core.Path.{_≡_, refl, sym, ap, _∙_}

@@ -1,4 +1,5 @@
--- Storing and rebuilding undo each other, transform by transform: for pictures f of h rows of w pixels whose channels are bytes.
+-- Storing and rebuilding undo each other, transform by transform: for pictures f of h rows of w pixels whose channels
+-- are bytes.
 use mathlib.Core.Bool.{true}
 use mathlib.Core.List.{List}
 use mathlib.Core.Path.{_≡_}

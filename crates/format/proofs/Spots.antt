@@ -1,5 +1,5 @@
--- Document 01's words on spots: five at the predictor's stage, and the record that holds each; one record without a predictor; inside and outside;
--- and a prediction looks at what it names alone.
+-- Document 01's words on spots: five at the predictor's stage, and the record that holds each; one record without a
+-- predictor; inside and outside; and a prediction looks at what it names alone.
 use mathlib.Core.Bool.{Bool, true, false, not}
 use mathlib.Core.List.{List, [], _∷_, map, map-map, map-id}
 use mathlib.Core.Logic.{⊎-elim, _↔_}

@@ -1,6 +1,6 @@
--- Refusal 22 in document 01's words: a record cannot be made exactly if a pixel without entry reaches the table inside it or, where the table comes
--- before the predictor, inside a packed pixel that its prediction names. Only a table loses items, and the records after it look at one item each,
--- but for the predictor, which looks at what it names.
+-- Refusal 22 in document 01's words: a record cannot be made exactly if a pixel without entry reaches the table inside
+-- it or, where the table comes before the predictor, inside a packed pixel that its prediction names. Only a table
+-- loses items, and the records after it look at one item each, but for the predictor, which looks at what it names.
 use mathlib.Core.Bool.{Bool, true, false, not, _||_, false≢true, true≢false}
 use mathlib.Core.List.{List, [], _∷_, List·Memᴰ·head, List·Memᴰ·tail, List·Memᴰ·not-nil, List·Memᴰ·cases-cons}
 use mathlib.Core.Logic.{⊎-elim, _↔_}
@@ -201,7 +201,8 @@ module _ (w h : ℕ) (cs ds : List ℕ) (valid : inputRefusal w h cs ds ≡ 0) (
       → (r : ℕ) → r < records w h cs → (missing (stepAt cs w) ds (count cs) f r ≡ true) ↔ Lacking (count cs) r
   unmade-table n = lacking-along (count cs) l (omega arith) n
 
-  -- the table comes before the predictor: it does so inside the packed pixel at the record's place, or inside one that its prediction names
+  -- the table comes before the predictor: it does so inside the packed pixel at the record's place, or inside one that
+  -- its prediction names
   pub unmade-predictor : (u : ℕ) → t < u → u < count cs → stepAt cs w u .kind ≡ 0 → (r : ℕ) → r < records w h cs
       → (missing (stepAt cs w) ds (count cs) f r ≡ true)
       ↔ ((p : ℕ)

@@ -71,14 +71,13 @@ module _ (w h : ℕ) (cs ds : List ℕ) where
   RebuildingExactly = (image : List ℕ)
       → (rebuildAnswer w h cs ds image ≡ 0) ↔ (Admitted × (4 * (h * w) ≤ length image))
 
-  -- room for a picture and its strip
-  abbrev pub Room : List ℕ → List ℕ → Type 0
-  Room picture strip = (4 * (h * w) ≤ length picture) × (4 * records w h cs ≤ length strip)
-
   abbrev pub StoringExactly : Type 0
   StoringExactly = (picture strip : List ℕ)
       → (storeAnswer w h cs ds picture strip ≡ 0)
-      ↔ (Admitted × Room picture strip × (storable w h cs ds (pixels picture) ≡ true))
+      ↔ (Admitted
+      × (4 * (h * w) ≤ length picture)
+      × (4 * records w h cs ≤ length strip)
+      × (storable w h cs ds (pixels picture) ≡ true))
 
   -- demand 2: rebuilding a stored picture gives that picture, every byte beyond kept
   abbrev pub RebuildsStored : Type 0
@@ -146,6 +145,11 @@ module _ (w h : ℕ) (cs ds : List ℕ) where
 -- demand 1, of the color map's calls
 abbrev pub ColorMapAnswers : Type 0
 ColorMapAnswers = (map : List ℕ) → (colorMapAnswer map ≡ 0) ⊎ (colorMapAnswer map ≡ 10)
+
+-- each of the two calls undoes the other, on every map of bytes
+abbrev pub ColorMapUndone : Type 0
+ColorMapUndone = (map : List ℕ) → AreBytes map
+    → (unadjustColorMap (adjustColorMap map) ≡ map) × (adjustColorMap (unadjustColorMap map) ≡ map)
 
 abbrev pub ColorMapRefused : Type 0
 ColorMapRefused = (map : List ℕ)

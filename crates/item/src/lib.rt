@@ -11,8 +11,8 @@ use crate::around::neighbor_index;
 use crate::block::mode_at;
 use crate::place::Place;
 use crate::place::expanded_index;
-use crate::place::expanded_place;
 use crate::place::packed_place;
+use crate::place::stage_place;
 use crate::predict::black_of;
 use crate::predict::names;
 use crate::table::joined;
@@ -79,7 +79,7 @@ pub fn item(chain: Chain, k: usize, q: usize, data: &[u8], picture: &[u8], point
     match kind {
         0 => residual(chain, j, q, data, picture, point),
         1 => {
-            let at = expanded_place(q, Expanded(s.width));
+            let at = stage_place(q, s.width);
             let v = item(chain, j, q, data, picture, point);
             color_of(s, chain.height, data, at.x, at.y, v)
         },
@@ -100,7 +100,7 @@ fn residual(chain: Chain, k: usize, q: usize, data: &[u8], picture: &[u8], point
         (shown (now (picture .entry)) point) q ⌝ }
 {
     let s = chain.steps[k];
-    let at = expanded_place(q, Expanded(s.width));
+    let at = stage_place(q, s.width);
     let mode = mode_at(s, chain.height, data, at.x, at.y);
     residual_of(
         mode,

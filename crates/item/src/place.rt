@@ -11,7 +11,18 @@ pub struct Place {
     pub y: usize,
 }
 
-// Where item q of a stage before a table stands.
+// Where item q of a stage of `width` columns stands, packed or not: no other stride is in reach.
+pub fn stage_place(q: usize, width: usize) -> Place
+    requires { ⌜ 1 ≤ width ⌝ }
+    ensures { λ r. ⌜ (r .x ≡ q % width) × (r .y ≡ q / width) ⌝ }
+{
+    Place {
+        x: q % width,
+        y: q / width,
+    }
+}
+
+// Where item q of the stage before a table stands.
 pub fn expanded_place(q: usize, row: Expanded) -> Place
     requires { ⌜ 1 ≤ row .0 ⌝ }
     ensures { λ r. ⌜ (r .x ≡ q % row .0) × (r .y ≡ q / row .0) ⌝ }
@@ -29,7 +40,7 @@ pub fn packed_place(q: usize, row: Packed) -> Place
     Place { x: q % w, y: q / w }
 }
 
-// The item at column x of row y of a stage before a table.
+// The item at column x of row y of the stage before a table.
 pub fn expanded_index(x: usize, y: usize, row: Expanded) -> usize
     requires { ⌜ y * row .0 + x < 18446744073709551616 ⌝ }
     ensures { λ r. ⌜ r ≡ y * row .0 + x ⌝ }

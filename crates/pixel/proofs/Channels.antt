@@ -1,4 +1,5 @@
--- Bytes replaced one by one are pixels replaced one by one, where the rule of a byte is the rule of its pixel's channel.
+-- Bytes replaced one by one are pixels replaced one by one, where the rule of a byte is the rule of its pixel's
+-- channel.
 use mathlib.Core.List.{List}
 use mathlib.Core.Path.{_≡_, refl, sym, ap, _∙_}
 use Prim.Native.Nat.{ℕ, zero, suc, _+_, _*_, _<_, _≤_}

@@ -1,4 +1,5 @@
--- A part of a buffer that is lent and comes back: pixels replaced in order in the part are pixels replaced in order in the whole.
+-- A part of a buffer that is lent and comes back: pixels replaced in order in the part are pixels replaced in order in
+-- the whole.
 use mathlib.Core.List.{List, [], _∷_, _++_}
 use mathlib.Core.Path.{_≡_, refl, sym, ap, _∙_}
 use Prim.Native.Nat.{ℕ, zero, suc, _+_, _-_, _*_, _<_, _≤_}

@@ -1,4 +1,5 @@
--- Loops over bytes for the modes that read the row above alone: each byte gains a function of two bytes that stand whole pixels before it.
+-- Loops over bytes for the modes that read the row above alone: each byte gains a function of two bytes that stand
+-- whole pixels before it.
 use mathlib.Core.List.{List}
 use mathlib.Core.Path.{_≡_, refl, sym, ap, _∙_}
 use Prim.Native.Nat.{ℕ, _+_, _-_, _*_, _<_, _≤_}

@@ -1,4 +1,5 @@
--- The predictor's turn on a row: the row is copied behind the row above, both are lent, and the row takes the place of the row above.
+-- The predictor's turn on a row: the row is copied behind the row above, both are lent, and the row takes the place of
+-- the row above.
 use mathlib.Core.List.{List}
 use mathlib.Core.Path.{_≡_, _∙_}
 use Prim.Native.Nat.{ℕ, _+_, _-_, _*_, _<_, _≤_}

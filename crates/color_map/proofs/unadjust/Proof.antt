@@ -1,4 +1,5 @@
--- `unadjust` meets its contract: before each turn the bytes from i on are unadjusted, and those before i are the first ones.
+-- `unadjust` meets its contract: before each turn the bytes from i on are unadjusted, and those before i are the first
+-- ones.
 use mathlib.Core.Path.{_≡_, refl}
 use Prim.Native.Nat.{_≤_, _-_}
 use native.Mathlib.Omega.{arith}

@@ -31,7 +31,7 @@ use Rattle.item.proofs.around.neighbor_index.Reads as neighbor-index-re
 use Rattle.item.proofs.block.mode_at.Reads as mode-at-reads
 use Rattle.item.proofs.painted.Reads as painted-reads
 use Rattle.item.proofs.place.expanded_index.Reads as expanded-index-reads
-use Rattle.item.proofs.place.expanded_place.Reads as expanded-place-reads
+use Rattle.item.proofs.place.stage_place.Reads as stage-place-reads
 use Rattle.item.proofs.place.packed_place.Reads as packed-place-reads
 use Rattle.item.proofs.predict.black_of.Reads as black-of-reads
 use Rattle.item.proofs.predict.names.Reads as names-reads
@@ -91,8 +91,8 @@ pub +item+neighbor+packed+residual-spec : {M : Type 1} → statement M
       painted-reads.Learnt,
       residual-below t,
       residual.Post,
-      expanded-place-reads.Asked,
-      expanded-place-reads.Learnt,
+      stage-place-reads.Asked,
+      stage-place-reads.Learnt,
       item-below t,
       item.Post,
       color-of-reads.Asked,
@@ -133,7 +133,7 @@ pub +item+neighbor+packed+residual-spec : {M : Type 1} → statement M
     let p = c .before .before .before .before .before .before .before .pre .1 in
     let d = c .before .before .before .before .if1 .left in
     let z = c .before .before .match .keys2 in
-    let a = c .before .expanded-place .ensures in
+    let a = c .before .stage-place .ensures in
     block-here (c .before .before .before .before .before .before .before .args .t1) _ (p .0 .valid) _ (counted _ _ d (p .1)) _ _ _ (inside-kept (c .before .before .before .before .before .before .before .args .t1) _ _ d (p .2) (λ e. omega arith)) (a .0) (a .1) (omega arith))
     (λ c κs.
     let p = c .before .before .before .before .before .pre .1 in
@@ -165,7 +165,7 @@ pub +item+neighbor+packed+residual-spec : {M : Type 1} → statement M
     (omega (arith, c .before .before .before .before .before .before .before .before .before .pre .0, d, c .before .before .before .per-pixel .ensures .1 .most), ((p .0, u, z), (row, omega (arith, c .before .before .before .per-pixel .ensures .0)))))
     (λ c. c .residual .ensures ∙ made-later _ _ _ _ _ (c .before .before .before .if1 .left))
     (λ c.
-    let a = c .before .before .expanded-place .ensures in
+    let a = c .before .before .stage-place .ensures in
     c .color-of .ensures ∙ ap (mapped _) (c .before .item .ensures) ∙ made-1 _ _ _ _ (c .before .before .before .match .keys2) _ _ _ (a .0) (a .1) ∙ made-later _ _ _ _ _ (c .before .before .before .before .before .if1 .left))
     (λ c. c .green-of .ensures ∙ ap (mapped _) (c .before .item2 .ensures) ∙ made-2 _ _ _ _ (c .before .before .match .keys3) _ ∙ made-later _ _ _ _ _ (c .before .before .before .before .if1 .left))
     (λ c.
@@ -239,8 +239,8 @@ pub +item+neighbor+packed+residual-spec : {M : Type 1} → statement M
     (record { inside = v .inside; table = t }, record-room (stepsOf (c .before .before .before .before .before .before .before .before .before .args .t1)) _ (c .before .before .before .before .before .before .before .before .before .args .k) _ (p .0 .2) (t .most) _ (c .before .before .before .before .before .before .before .before .before .args .n - 1) _ _ (c .packed .ensures) (omega (arith, p .1 .1, c .before .before .before .before .before .if1 .left))))
     (λ c. record-next _ _ _ _ (c .before .before .before .before .before .before .before .before .before .before .pre .1 .0 .2) _ _ _ _ _ _ _ (omega (arith, c .before .before .before .before .before .before .if1 .left)) (c .before .before .before .before .if2 .left) (c .joined .ensures) (rw (c .before .before .before .expanded-index .ensures) at (c .before .before .item .ensures)) (c .before .packed .ensures)))
     λ t. residual-lts.spec (
-      expanded-place-reads.Asked,
-      expanded-place-reads.Learnt,
+      stage-place-reads.Asked,
+      stage-place-reads.Learnt,
       mode-at-reads.Asked,
       mode-at-reads.Learnt,
       item-below t,
@@ -257,32 +257,32 @@ pub +item+neighbor+packed+residual-spec : {M : Type 1} → statement M
     (λ c κs. let p = c .before .before .before .pre .1 .0 in sized-here (c .before .before .before .args .t1) _ (p .0 .valid) _ (p .1) .wide)
     (λ c κs.
     let p = c .before .before .before .before .pre .1 in
-    let a = c .expanded-place .ensures in
+    let a = c .stage-place .ensures in
     block-here (c .before .before .before .before .args .t1) _ (p .0 .0 .valid) _ (p .0 .1) _ _ _ (p .1) (a .0) (a .1) (omega (arith, p .0 .2)))
     (λ c κs.
     let p = c .before .before .before .before .before .pre .1 in
     (omega (arith, c .before .before .before .before .before .pre .0), (p .0 .0, omega (arith, p .0 .1), inside-before (c .before .before .before .before .before .args .t1) _ (p .0 .0 .valid) _ (p .0 .1) _ (p .1))))
     (λ c κs.
     let p = c .before .before .before .before .before .before .pre .1 in
-    let a = c .before .before .expanded-place .ensures in
+    let a = c .before .before .stage-place .ensures in
     let w = place-here (c .before .before .before .before .before .before .args .t1) _ (p .0 .0 .valid) _ (p .0 .1) _ _ _ (p .1) (a .0) (a .1) in
     (omega (arith, c .before .before .before .before .before .before .pre .0), ((p .0 .0, p .0 .1, omega arith), w)))
     (λ c κs.
     let p = c .before .before .before .before .before .before .before .pre .1 in
-    let a = c .before .before .before .expanded-place .ensures in
+    let a = c .before .before .before .stage-place .ensures in
     let w = place-here (c .before .before .before .before .before .before .before .args .t1) _ (p .0 .0 .valid) _ (p .0 .1) _ _ _ (p .1) (a .0) (a .1) in
     (omega (arith, c .before .before .before .before .before .before .before .pre .0), ((p .0 .0, p .0 .1, omega arith), w)))
     (λ c κs.
     let p = c .before .before .before .before .before .before .before .before .pre .1 in
-    let a = c .before .before .before .before .expanded-place .ensures in
+    let a = c .before .before .before .before .stage-place .ensures in
     let w = place-here (c .before .before .before .before .before .before .before .before .args .t1) _ (p .0 .0 .valid) _ (p .0 .1) _ _ _ (p .1) (a .0) (a .1) in
     (omega (arith, c .before .before .before .before .before .before .before .before .pre .0), ((p .0 .0, p .0 .1, omega arith), w)))
     (λ c κs.
     let p = c .before .before .before .before .before .before .before .before .before .pre .1 in
-    let a = c .before .before .before .before .before .expanded-place .ensures in
+    let a = c .before .before .before .before .before .stage-place .ensures in
     let w = place-here (c .before .before .before .before .before .before .before .before .before .args .t1) _ (p .0 .0 .valid) _ (p .0 .1) _ _ _ (p .1) (a .0) (a .1) in
     (omega (arith, c .before .before .before .before .before .before .before .before .before .pre .0), ((p .0 .0, p .0 .1, omega arith), w)))
     (λ c κs. search needs)
     (λ c.
-    let a = c .before .before .before .before .before .before .before .expanded-place .ensures in
+    let a = c .before .before .before .before .before .before .before .stage-place .ensures in
     residual-next _ _ _ _ (c .before .before .before .before .before .before .before .before .before .before .before .pre .1 .0 .2) _ _ _ _ _ _ _ _ _ (a .0) (a .1) (c .before .before .before .before .before .before .mode-at .ensures) (c .residual-of .ensures) (c .before .before .before .before .before .item .ensures) (c .before .before .before .before .neighbor .ensures) (c .before .before .before .neighbor2 .ensures) (c .before .before .neighbor3 .ensures) (c .before .neighbor4 .ensures))

@@ -1,4 +1,5 @@
--- `replay_all` is safe and ends. The measure is the number of turns that are left, and nothing has to hold from turn to turn.
+-- `replay_all` is safe and ends. The measure is the number of turns that are left, and nothing has to hold from turn to
+-- turn.
 use native.Mathlib.Omega.{arith}
 use borrow.Author.Needs.{needs}
 use Rattle.replay.proofs.replay_all.Statement.{statement}

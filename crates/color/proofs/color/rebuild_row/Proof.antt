@@ -1,4 +1,5 @@
--- `rebuild_row` meets its contract: before each turn the columns before x are rebuilt, and a turn takes them to the end of a block.
+-- `rebuild_row` meets its contract: before each turn the columns before x are rebuilt, and a turn takes them to the end
+-- of a block.
 use mathlib.Core.Path.{_≡_, refl, _∙_}
 use Prim.Native.Nat.{_-_, _≤_}
 use native.Mathlib.Omega.{arith}

@@ -1,4 +1,5 @@
--- `rebuild_segment` meets its contract: before each turn the pixels up to i are rebuilt, by whatever data pixel has these factors.
+-- `rebuild_segment` meets its contract: before each turn the pixels up to i are rebuilt, by whatever data pixel has
+-- these factors.
 use mathlib.Core.Path.{_≡_, refl, _∙_}
 use Prim.Native.Nat.{_≤_, _-_}
 use native.Mathlib.Omega.{arith}

@@ -1,4 +1,5 @@
--- `store_segment` meets its contract: before each turn the pixels up to i are stored, by whatever data pixel has these factors.
+-- `store_segment` meets its contract: before each turn the pixels up to i are stored, by whatever data pixel has these
+-- factors.
 use mathlib.Core.Path.{_≡_, refl, _∙_}
 use Prim.Native.Nat.{_≤_, _-_}
 use native.Mathlib.Omega.{arith}

@@ -1,4 +1,5 @@
--- `clamp_add_subtract_half` meets its contract: where something is lost nothing is gained, so that it does not matter which is clamped first.
+-- `clamp_add_subtract_half` meets its contract: where something is lost nothing is gained, so that it does not matter
+-- which is clamped first.
 use mathlib.Core.Path.{_≡_}
 use Prim.Native.Nat.{ℕ, _+_, _-_, _/_, _<_, min}
 use borrow.Author.Needs.{needs}

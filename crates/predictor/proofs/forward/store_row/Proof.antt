@@ -1,4 +1,5 @@
--- `store_row` meets its contract: row 0 by its own rule, out of the second half of `rows`; another by the blocks of its row.
+-- `store_row` meets its contract: row 0 by its own rule, out of the second half of `rows`; another by the blocks of its
+-- row.
 use mathlib.Core.Path.{_≡_, _∙_}
 use Prim.Native.Nat.{_+_, _*_, _/_, _^_, _≤_}
 use native.Mathlib.Omega.{arith}

@@ -1,4 +1,5 @@
--- `rebuild_row_below` meets its contract: the part that is lent holds rows y - 1 and y, and the row rebuilt in it is row y of the picture rebuilt.
+-- `rebuild_row_below` meets its contract: the part that is lent holds rows y - 1 and y, and the row rebuilt in it is
+-- row y of the picture rebuilt.
 use mathlib.Core.Path.{_≡_}
 use Prim.Native.Nat.{_+_, _-_, _*_, _/_, _^_, _≤_}
 use native.Mathlib.Omega.{arith}

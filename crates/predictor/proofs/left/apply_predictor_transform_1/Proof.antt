@@ -1,4 +1,5 @@
--- `apply_predictor_transform_1` meets its contract: before each turn the pixels that the eights left are rebuilt up to i, and `left` is the last of them.
+-- `apply_predictor_transform_1` meets its contract: before each turn the pixels that the eights left are rebuilt up to
+-- i, and `left` is the last of them.
 use mathlib.Core.Path.{_≡_, refl, _∙_}
 use Prim.Native.Nat.{_≤_, _-_}
 use borrow.Author.Needs.{needs}

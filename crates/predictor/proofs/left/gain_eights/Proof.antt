@@ -1,4 +1,5 @@
--- `gain_eights` meets its contract: before each turn the pixels up to i are rebuilt, and what eight from i gain is prepared.
+-- `gain_eights` meets its contract: before each turn the pixels up to i are rebuilt, and what eight from i gain is
+-- prepared.
 use mathlib.Core.Path.{_≡_, refl, _∙_}
 use Prim.Native.Nat.{_≤_, _+_, _-_}
 use borrow.Author.Needs.{needs}

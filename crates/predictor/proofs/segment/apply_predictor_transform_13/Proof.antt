@@ -1,4 +1,5 @@
--- `apply_predictor_transform_13` meets its contract: before each turn the pixels up to i are rebuilt, and `left` is the last of them.
+-- `apply_predictor_transform_13` meets its contract: before each turn the pixels up to i are rebuilt, and `left` is the
+-- last of them.
 use mathlib.Core.Path.{refl}
 use Prim.Native.Nat.{_-_}
 use borrow.Author.Needs.{needs}

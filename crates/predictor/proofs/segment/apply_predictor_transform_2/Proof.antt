@@ -1,4 +1,5 @@
--- `apply_predictor_transform_2` meets its contract: a loop over bytes by which each gains the byte above is the mode's loop over pixels.
+-- `apply_predictor_transform_2` meets its contract: a loop over bytes by which each gains the byte above is the mode's
+-- loop over pixels.
 use borrow.Author.Needs.{needs}
 use native.Mathlib.Omega.{arith}
 use Rattle.predictor.specs.Bytewise.{first}

@@ -1,4 +1,5 @@
--- `apply_predictor_transform_9` meets its contract: a loop over bytes by which each gains an average is the mode's loop over pixels.
+-- `apply_predictor_transform_9` meets its contract: a loop over bytes by which each gains an average is the mode's loop
+-- over pixels.
 use Prim.Native.Nat.{_-_}
 use borrow.Author.Needs.{needs}
 use native.Mathlib.Omega.{arith}

@@ -1,4 +1,5 @@
--- `apply_predictor_transform_11` meets its contract: before each turn the pixels up to i are rebuilt, `left` is the last of them, and `near` is the choice for pixel i.
+-- `apply_predictor_transform_11` meets its contract: before each turn the pixels up to i are rebuilt, `left` is the
+-- last of them, and `near` is the choice for pixel i.
 use mathlib.Core.Path.{_≡_, refl, _∙_}
 use Prim.Native.Nat.{_≤_, _-_}
 use borrow.Author.Needs.{needs}

@@ -88,13 +88,13 @@ module _ (w h : ℕ) (cs ds : List ℕ) where
 
   pub rebuilds-stored : RebuildsStored w h cs ds
   rebuilds-stored picture strip image bytes e room front =
-      (accepted, rebuildImage-accepted w h cs ds image accepted ∙ written-same (h * w) (rebuilt (stepAt cs w) h ds (count cs) (pixels image)) f image same)
+      (taken, rebuildImage-accepted w h cs ds image taken ∙ written-same (h * w) (rebuilt (stepAt cs w) h ds (count cs) (pixels image)) f image same)
     where
       valid : inputRefusal w h cs ds ≡ 0
       valid = store-accepted w h cs ds picture strip e .0
 
-      accepted : rebuildAnswer w h cs ds image ≡ 0
-      accepted = rebuild-accepts w h cs ds image valid room
+      taken : rebuildAnswer w h cs ds image ≡ 0
+      taken = rebuild-accepts w h cs ds image valid room
 
       f : Picture
       f = pixels picture
@@ -111,8 +111,8 @@ module _ (w h : ℕ) (cs ds : List ℕ) where
   pub stores-rebuilt : StoresRebuilt w h cs ds
   unfolding recordAt
   stores-rebuilt image picture strip bytes untabled e roomP roomS front = (
-    accepted,
-    storeStrip-accepted w h cs ds picture strip accepted ∙ ap (λ (n : ℕ). written n s strip) whole ∙ written-same (h * w) s (pixels image) strip same,
+    taken,
+    storeStrip-accepted w h cs ds picture strip taken ∙ ap (λ (n : ℕ). written n s strip) whole ∙ written-same (h * w) s (pixels image) strip same,
   )
     where
       valid : inputRefusal w h cs ds ≡ 0
@@ -121,8 +121,8 @@ module _ (w h : ℕ) (cs ds : List ℕ) where
       whole : records w h cs ≡ h * w
       whole = ap (λ (x : ℕ). h * x) (widthAt-untabled cs w (count cs) untabled)
 
-      accepted : storeAnswer w h cs ds picture strip ≡ 0
-      accepted = store-accepts w h cs ds picture strip valid roomP (rw whole roomS) (accepts-untabled cs w h ds (count cs) untabled (pixels picture))
+      taken : storeAnswer w h cs ds picture strip ≡ 0
+      taken = store-accepts w h cs ds picture strip valid roomP (rw whole roomS) (accepts-untabled cs w h ds (count cs) untabled (pixels picture))
 
       f : Picture
       f = rebuilt (stepAt cs w) h ds (count cs) (pixels image)

@@ -119,6 +119,9 @@ worked =
     ∷ storeAnswer 3 2 (table 5) (reds 5) (inRed (5 ∷ 1 ∷ 2 ∷ 3 ∷ 4 ∷ 0 ∷ [])) (zeros 4)
     ∷ storeAnswer 3 2 (table 5) (reds 5) (inRed (0 ∷ 1 ∷ 2 ∷ 3 ∷ 4 ∷ 0 ∷ 5 ∷ [])) (zeros 4) ∷ []
     is 21 ∷ 21 ∷ 0 ∷ [])
+    -- the zero bytes of a second record
+    ∷ (oneByOne (green ++ set 12 1 predictor) (zeros 1) ∷ oneByOne (green ++ set 15 1 predictor) (zeros 1) ∷ []
+    is 5 ∷ 5 ∷ [])
     ∷ []
 
 pub known-refusals : map (λ (l : Line). l .computed) worked ≡ map (λ (l : Line). l .expected) worked

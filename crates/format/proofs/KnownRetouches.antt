@@ -228,6 +228,11 @@ worked =
     ∷ (heldAfter 3 ∷ [] is 4 ∷ [])
     -- numbers 1 to 255 are refusals
     ∷ (columnsOf (acceptedCalls (256 ∷ 0 ∷ 255 ∷ 1 ∷ 447 ∷ 22 ∷ []) calls) is 3 ∷ 4 ∷ 2 ∷ [])
+    -- 9 by 2, blocks of 8: what mode 1 of the second block names, past a block of mode 14
+    ∷ (lacking 18
+    (λ picture.
+    retouchAnswer 9 2 (table 17 ++ recordOf 0 3 0 68 8) (reds 17 ++ inGreen (14 ∷ 1 ∷ [])) picture (zeros 18) 5 1 black)
+    is 15 ∷ [])
     ∷ []
 
 pub known-retouches : map (λ (l : Line). l .computed) worked ≡ map (λ (l : Line). l .expected) worked

@@ -149,6 +149,13 @@ worked =
     is 10 ∷ 10 ∷ 10 ∷ 10 ∷ 10 ∷ 0 ∷ 0 ∷ [])
     ∷ (adjustColorMap (1 ∷ 1 ∷ 1 ∷ 1 ∷ 1 ∷ []) is 1 ∷ 1 ∷ 1 ∷ 1 ∷ 1 ∷ [])
     ∷ (unadjustColorMap (1 ∷ 1 ∷ 1 ∷ 1 ∷ 1 ∷ []) is 1 ∷ 1 ∷ 1 ∷ 1 ∷ 1 ∷ [])
+    -- two rows of blocks: of 8, in a width that is a multiple of their side; of 4, with other modes
+    ∷ (storeStrip 8 9 (recordOf 1 3 0 0 8) twoBlocks (copies 72 (pixel 0 32 0 0)) (zeros 72)
+    is copies 64 (pixel 224 32 0 0) ++ copies 8 (pixel 192 32 0 0))
+    ∷ (rebuildImage 8 9 (recordOf 1 3 0 0 8) twoBlocks (copies 72 (pixel 0 32 0 0))
+    is copies 64 (pixel 32 32 0 0) ++ copies 8 (pixel 64 32 0 0))
+    ∷ (storeStrip 4 5 (recordOf 0 2 0 0 8) (inGreen (1 ∷ 2 ∷ [])) (reds 20) (zeros 20)
+    is residues (0 ∷ 1 ∷ 1 ∷ 1 ∷ 4 ∷ 1 ∷ 1 ∷ 1 ∷ 4 ∷ 1 ∷ 1 ∷ 1 ∷ 4 ∷ 1 ∷ 1 ∷ 1 ∷ 4 ∷ 4 ∷ 4 ∷ 4 ∷ []))
     ∷ []
 
 pub known-transforms : map (λ (l : Line). l .computed) worked ≡ map (λ (l : Line). l .expected) worked

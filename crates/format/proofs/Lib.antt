@@ -35,3 +35,4 @@ pub mod KnownTransforms
 pub mod KnownRefusals
 pub mod KnownChains
 pub mod KnownRetouches
+pub mod Pinned

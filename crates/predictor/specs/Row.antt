@@ -86,7 +86,7 @@ pub record Segment (w a b : ℕ) (rows : List ℕ) : Type 0 where
   pub within : 4 * b ≤ length rows
 
 -- columns from a up to b of the row are off the first, and have room in the row that is stored
-pub record Columns (w a b : ℕ) (rows out : List ℕ) : Type 0 where
+pub record InColumns (w a b : ℕ) (rows out : List ℕ) : Type 0 where
   pub wide : 2 ≤ w
   pub narrow : w ≤ 16384
   pub off : 1 ≤ a

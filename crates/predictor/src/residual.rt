@@ -17,7 +17,7 @@ ghost use mathlib.Core.Path.{_≡_};
 ghost use Prim.Native.Nat.{_+_, _-_, _*_, _<_, _≤_};
 ghost use lib.ListN.{length};
 ghost use Rattle.format.specs.Picture.{byteAt, pixels};
-ghost use Rattle.predictor.specs.Row.{around, residual, lostBy, Columns};
+ghost use Rattle.predictor.specs.Row.{around, residual, lostBy, InColumns};
 ghost use Rattle.predictor.specs.Bytewise.{predictByte as predictByteOf, byteResidual as byteResidualOf};
 ghost use Rattle.predictor.specs.Bytewise.{bytesLost, ByteColumns};
 
@@ -189,7 +189,7 @@ fn residual_11(rows: &[u8], w: usize, x: usize) -> Pixel
 }
 
 fn store_11(rows: &[u8], out: &mut [u8], w: usize, from: usize, to: usize)
-    requires { ⌜ Columns w from to (now rows) (now out) ⌝ }
+    requires { ⌜ InColumns w from to (now rows) (now out) ⌝ }
     ensures { λ _. ⌜ now (out .exit) ≡ lostBy (around 11 w) w (now (rows .entry)) from to (now (out .entry)) ⌝ }
 {
     let mut x = from;
@@ -202,7 +202,7 @@ fn store_11(rows: &[u8], out: &mut [u8], w: usize, from: usize, to: usize)
 
 // The columns from `from` up to `to`, by their mode.
 pub fn store_segment(rows: &[u8], out: &mut [u8], mode: u8, w: usize, from: usize, to: usize)
-    requires { ⌜ Columns w from to (now rows) (now out) ⌝ }
+    requires { ⌜ InColumns w from to (now rows) (now out) ⌝ }
     ensures { λ _. ⌜ now (out .exit) ≡ lostBy (around mode w) w (now (rows .entry)) from to (now (out .entry)) ⌝ }
 {
     let s = 4 * w;

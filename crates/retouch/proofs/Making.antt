@@ -35,26 +35,26 @@ record-inside c ds v n r e l = rw (← v .strip, ← e) l
 
 module _ (c : Chain) (ds : List ℕ) (f : Picture) where
   -- the first k spots can be made: whether one of m cannot is left to the others
-  abbrev pub Passed : List ℕ → ℕ → ℕ → Type 0
-  Passed xs m k = cannot c ds f (take m xs) ≡ cannot c ds f (drop k (take m xs))
+  abbrev pub SpotsPassed : List ℕ → ℕ → ℕ → Type 0
+  SpotsPassed xs m k = cannot c ds f (take m xs) ≡ cannot c ds f (drop k (take m xs))
 
   -- record r cannot be made
   abbrev lost : ℕ → Bool
   lost r = ltb r (recordsIn c) && missing (stepsOf c) ds (c .count) f r
 
-  pub passed-more : (xs : List ℕ) (m k : ℕ) → m ≤ length xs → Passed xs m k → k < m → lost (getD xs k 0) ≡ false → Passed xs m (k + 1)
+  pub passed-more : (xs : List ℕ) (m k : ℕ) → m ≤ length xs → SpotsPassed xs m k → k < m → lost (getD xs k 0) ≡ false → SpotsPassed xs m (k + 1)
   unfolding unmade
   passed-more xs m k l p u e = rw (add-one k) (p ∙ rw (listed-at xs m l k u, e) refl)
 
-  missed : (xs : List ℕ) (m k : ℕ) → m ≤ length xs → Passed xs m k → k < m → lost (getD xs k 0) ≡ true → cannot c ds f (take m xs) ≡ true
+  missed : (xs : List ℕ) (m k : ℕ) → m ≤ length xs → SpotsPassed xs m k → k < m → lost (getD xs k 0) ≡ true → cannot c ds f (take m xs) ≡ true
   unfolding unmade
   missed xs m k l p u e = p ∙ rw (listed-at xs m l k u, e) refl
 
-  passed-all : (xs : List ℕ) (m k : ℕ) → m ≤ length xs → Passed xs m k → k ≤ m → m ≤ k → cannot c ds f (take m xs) ≡ false
+  passed-all : (xs : List ℕ) (m k : ℕ) → m ≤ length xs → SpotsPassed xs m k → k ≤ m → m ≤ k → cannot c ds f (take m xs) ≡ false
   unfolding unmade
   passed-all xs m k l p u v = let e : k ≡ m = omega arith in p ∙ rw (e, listed-none xs m l) refl
 
-  module _ (s : Spots) (sound : Sound s) (k : ℕ) (passed : Passed (s .records) (s .count) k) (r : Remade) where
+  module _ (s : Spots) (sound : Sound s) (k : ℕ) (passed : SpotsPassed (s .records) (s .count) k) (r : Remade) where
     fits : s .count ≤ length (s .records)
     fits = let p = sound .places in let m = sound .most in omega arith
 

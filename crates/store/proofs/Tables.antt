@@ -8,16 +8,16 @@ use Rattle.format.specs.declared.Step.{Step}
 use Rattle.format.specs.Choice.{if_then_else_}
 
 -- none of the first t records is a table
-pub record NoTable (steps : ℕ → Step) (t : ℕ) : Type 0 where
+pub record NoneBefore (steps : ℕ → Step) (t : ℕ) : Type 0 where
   pub at : (j : ℕ) → j < t → steps j .kind ≡ 3 → ⊥
 
-pub none-yet : (steps : ℕ → Step) → NoTable steps 0
+pub none-yet : (steps : ℕ → Step) → NoneBefore steps 0
 none-yet steps = record { at = λ j l e. no l }
   where
     no : {j : ℕ} → j < 0 → ⊥
     no l = omega arith
 
-pub none-more : (steps : ℕ → Step) (t : ℕ) → NoTable steps t → (steps t .kind ≡ 3 → ⊥) → NoTable steps (t + 1)
+pub none-more : (steps : ℕ → Step) (t : ℕ) → NoneBefore steps t → (steps t .kind ≡ 3 → ⊥) → NoneBefore steps (t + 1)
 none-more steps t h d = record { at = λ j l e. go j l e (ℕ-discrete j t) }
   where
     go : (j : ℕ) → j < t + 1 → steps j .kind ≡ 3 → Dec (j ≡ t) → ⊥

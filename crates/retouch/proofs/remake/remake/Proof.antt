@@ -8,13 +8,13 @@ use Rattle.chain.specs.Valid.{recordsIn, storedBy}
 use Rattle.item.specs.Source.{shown}
 use Rattle.item.proofs.WhenMade.{made-item}
 use Rattle.retouch.specs.Remade.{MadeTo}
-use Rattle.retouch.proofs.Making.{Passed, passed-more, remade-refused, remade-all, to-none, to-more}
+use Rattle.retouch.proofs.Making.{SpotsPassed, passed-more, remade-refused, remade-all, to-none, to-more}
 use Rattle.retouch.proofs.remake.remake.Statement.{statement}
 use Rattle.retouch.proofs.remake.remake.Tie as tie
 
 abbrev Inv-loop : tie.InvT-loop
 Inv-loop chain «data» picture point spots places records₀ k₀ records k =
-    Passed chain «data» (shown picture point) places (spots .count) k
+    SpotsPassed chain «data» (shown picture point) places (spots .count) k
     × MadeTo k (storedBy chain «data» (chain .count) (shown picture point)) (recordsIn chain) places records
     × (k ≤ spots .count)
     × (length records ≡ 5)

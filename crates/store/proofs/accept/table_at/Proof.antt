@@ -2,12 +2,12 @@
 use Prim.Native.Nat.{_≤_, _-_}
 use native.Mathlib.Omega.{arith}
 use Rattle.chain.specs.Valid.{stepsIn}
-use Rattle.store.proofs.Tables.{NoTable, none-yet, none-more}
+use Rattle.store.proofs.Tables.{NoneBefore, none-yet, none-more}
 use Rattle.store.proofs.accept.table_at.Statement.{statement}
 use Rattle.store.proofs.accept.table_at.Tie as tie
 
 abbrev Inv-loop : tie.InvT-loop
-Inv-loop steps count t₀ t = (t ≤ count) × NoTable (stepsIn steps) t
+Inv-loop steps count t₀ t = (t ≤ count) × NoneBefore (stepsIn steps) t
 
 abbrev μ-loop : tie.MeasureT-loop
 μ-loop steps count t₀ t = count - t

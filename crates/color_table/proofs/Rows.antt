@@ -1,6 +1,6 @@
 -- Rows: columns from the right, a row in its part of the picture, rows from the bottom.
 use mathlib.Core.List.{List}
-use mathlib.Core.Path.{_≡_, sym, ap, _∙_}
+use mathlib.Core.Path.{_≡_, refl, sym, ap, _∙_}
 use Prim.Native.Nat.{ℕ, suc, _+_, _-_, _*_, _/_, _%_, _<_, _≤_}
 use native.Mathlib.Nat.{add-zero, mod-lt, mul-le-mul-left, mul-le-mul-right, mul-one, suc-mul, div-le-self, div-le-of-le-mul}
 use native.Mathlib.Omega.{arith}
@@ -16,7 +16,7 @@ use Rattle.pixel.proofs.Cells.{pixel-lawful, run-before}
 use Rattle.pixel.proofs.Part.{back, part-run, pixel-part}
 use Rattle.pixel.proofs.Given.{given-same, given-before, given-join}
 use Rattle.color_table.specs.Table.{ColumnsOf}
-use Rattle.color_table.specs.Unpack.{rowOf, Columns, FourOf, FourIn}
+use Rattle.color_table.specs.Unpack.{rowOf, Columns, FourOf, FourAt, FourIn}
 
 -- columns of a row
 
@@ -31,6 +31,20 @@ unfolding rowOf
 column-is n e g first x b j c v h t p q l pos =
     let d : first + x - first ≡ x = omega arith in
     t ∙ rw (q, d, ← p) (h .at b (x % n) l (mod-lt x pos))
+
+-- columns where a packed pixel holds one index
+module _ (e g : Picture) (first x : ℕ) (c : List ℕ) (h : ColumnsOf 1 e c) where
+  looked : (y i p : ℕ) → p ≡ g y .green → p < 256 → i ≡ first + y → pixels c p ≡ rowOf 1 e g first i
+  looked y i p q l m =
+      let d : y / 1 ≡ y = omega arith in
+      let a : p ≡ p * 1 + y % 1 = omega arith in
+      let t : p ≡ g (y / 1) .green = rw d q in
+      rw m (column-is 1 e g first y p p c (pixels c p) h refl t a l (omega arith))
+
+  pub four-looked : (p q r s : ℕ) → (p ≡ g x .green) × (p < 256) → (q ≡ g (x + 1) .green) × (q < 256) → (r ≡ g (x + 2) .green) × (r < 256) → (s ≡ g (x + 3) .green) × (s < 256)
+      → FourAt (rowOf 1 e g first) (first + x) p q r s c
+  four-looked p q r s i j k l =
+      record { first = looked x _ p (i .0) (i .1) refl; second = looked (x + 1) _ q (j .0) (j .1) (omega arith); third = looked (x + 2) _ r (k .0) (k .1) (omega arith); fourth = looked (x + 3) _ s (l .0) (l .1) (omega arith) }
 
 -- four of the eight columns of packed pixel k, from column a on
 pub eight-in : (e g : Picture) (first k a b j p q : ℕ) (c : List ℕ) → ColumnsOf 8 e c → b ≡ g k .green → j ≡ b * 8 → b < 256 → a ≤ 4 → p ≡ first + (k * 8 + a) → q ≡ j + a → FourIn (rowOf 8 e g first) p q c

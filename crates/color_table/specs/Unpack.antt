@@ -25,6 +25,13 @@ pub record FourOf (f : Picture) (j a b c d : ℕ) : Type 0 where
   pub third : unword c ≡ f (j + 2)
   pub fourth : unword d ≡ f (j + 3)
 
+-- f has pixels p, q, r and s of c from i on
+pub record FourAt (f : Picture) (i p q r s : ℕ) (c : List ℕ) : Type 0 where
+  pub first : pixels c p ≡ f i
+  pub second : pixels c q ≡ f (i + 1)
+  pub third : pixels c r ≡ f (i + 2)
+  pub fourth : pixels c s ≡ f (i + 3)
+
 -- f has pixels j to j + 3 of c from i on
 abbrev pub FourIn : Picture → ℕ → ℕ → List ℕ → Type 0
 FourIn f i j c = (k : ℕ) → k < 4 → pixels c (j + k) ≡ f (i + k)

@@ -1,6 +1,8 @@
 // A row unpacked in place: the buffer's front holds the packed rows, and becomes the expanded ones row by row from the
 // bottom. A row's columns go from the right, because one may lie where a packed pixel of the same row stands.
 use crate::four::put_four;
+use pixel::pixel::pixel_at;
+use pixel::pixel::put_pixel;
 use pixel::stride::Expanded;
 use pixel::stride::Packed;
 use pixel::stride::per_pixel;
@@ -14,7 +16,7 @@ ghost use Rattle.format.specs.ColorTable.{packedWidth};
 ghost use Rattle.pixel.specs.Stride.{Places};
 ghost use Rattle.pixel.specs.Word.{unword};
 ghost use Rattle.color_table.specs.Table.{ColumnsOf};
-ghost use Rattle.color_table.specs.Unpack.{rowOf, Columns, FourIn, Four, RowUnpacked};
+ghost use Rattle.color_table.specs.Unpack.{rowOf, Columns, FourIn, FourAt, Four, RowUnpacked};
 
 // The byte of packed pixel k.
 fn packed_byte(part: &[u8], k: usize) -> usize
@@ -33,8 +35,47 @@ fn column_at(part: &[u8], x: usize, n: usize, columns: &[u8; 8192]) -> u32
     word_at(columns, packed_byte(part, x / n) * n + x % n)
 }
 
+// Pixels p, q, r and s of `columns` as pixels i to i + 3: by bytes, so that the compiler moves two pixels at once.
+fn put_entries(
+    part: &mut [u8],
+    i: usize,
+    p: usize,
+    q: usize,
+    r: usize,
+    s: usize,
+    columns: &[u8; 8192],
+)
+    requires { ⌜ (4 * i + 16 ≤ length (now part)) × (p < 256) × (q < 256) × (r < 256) × (s < 256) ⌝ }
+    ensures { λ _. ⌜ ((f : Picture) → FourAt f i p q r s (now (columns .entry))
+        → Four f i (now (part .entry)) (now (part .exit))) ⌝ }
+{
+    let k = i + 1;
+    let l = i + 2;
+    let m = i + 3;
+    let a = pixel_at(columns, p);
+    let b = pixel_at(columns, q);
+    let c = pixel_at(columns, r);
+    let d = pixel_at(columns, s);
+    put_pixel(part, i, a);
+    put_pixel(part, k, b);
+    put_pixel(part, l, c);
+    put_pixel(part, m, d);
+}
+
+// Four columns where a packed pixel holds one index: all indices are read before a column is.
+fn look_up_four(part: &mut [u8], first: usize, x: usize, columns: &[u8; 8192])
+    requires { ⌜ 4 * (first + x) + 16 ≤ length (now part) ⌝ }
+    ensures { λ _. ⌜ Columns 1 (now (columns .entry)) first x 4 (now (part .entry)) (now (part .exit)) ⌝ }
+{
+    let p = packed_byte(part, x);
+    let q = packed_byte(part, x + 1);
+    let r = packed_byte(part, x + 2);
+    let s = packed_byte(part, x + 3);
+    put_entries(part, first + x, p, q, r, s, columns);
+}
+
 // Four columns, all of them read before one is written.
-fn unpack_four(part: &mut [u8], first: usize, x: usize, n: usize, columns: &[u8; 8192])
+fn read_four(part: &mut [u8], first: usize, x: usize, n: usize, columns: &[u8; 8192])
     requires { ⌜ Places n × (4 * (first + x) + 16 ≤ length (now part)) ⌝ }
     ensures { λ _. ⌜ Columns n (now (columns .entry)) first x 4 (now (part .entry)) (now (part .exit)) ⌝ }
 {
@@ -43,6 +84,18 @@ fn unpack_four(part: &mut [u8], first: usize, x: usize, n: usize, columns: &[u8;
     let u = column_at(part, x + 2, n, columns);
     let v = column_at(part, x + 3, n, columns);
     put_four(part, first + x, s, t, u, v);
+}
+
+// Four columns, by the faster way for n.
+fn unpack_four(part: &mut [u8], first: usize, x: usize, n: usize, columns: &[u8; 8192])
+    requires { ⌜ Places n × (4 * (first + x) + 16 ≤ length (now part)) ⌝ }
+    ensures { λ _. ⌜ Columns n (now (columns .entry)) first x 4 (now (part .entry)) (now (part .exit)) ⌝ }
+{
+    if n == 1 {
+        look_up_four(part, first, x, columns);
+    } else {
+        read_four(part, first, x, n, columns);
+    }
 }
 
 // The first 4 * count columns.

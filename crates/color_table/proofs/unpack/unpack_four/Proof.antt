@@ -1,6 +1,5 @@
--- `unpack_four` meets its contract: the four columns were read before one was written.
+-- `unpack_four` meets its contract: either way does.
 use borrow.Author.Needs.{needs}
-use Rattle.color_table.proofs.Rows.{four-columns}
 use Rattle.color_table.proofs.unpack.unpack_four.Statement.{statement}
 use Rattle.color_table.proofs.unpack.unpack_four.Tie as tie
 
@@ -9,15 +8,8 @@ unpack-four-spec =
     tie.close
     (tie.spec
     (λ c κs. search needs)
-    (λ c. search needs)
     (λ c κs. search needs)
     (λ c. search needs)
-    (λ c κs. search needs)
+    (λ c e. rw (c .before .before .before .before .if1 .taken) (c .before .before .look-up-four .ensures e))
     (λ c. search needs)
-    (λ c κs. search needs)
-    (λ c. search needs)
-    (λ c κs. search needs)
-    (λ c. search needs)
-    (λ c e h.
-    let at = c .before .before .before .before .before .before .before .before .before .before .column-at .ensures e (c .before .before .before .before .before .before .before .before .before .before .before .before .before .args .first) h in
-    c .before .before .put-four .ensures _ (four-columns _ _ _ _ _ _ _ at (c .before .before .before .before .before .before .before .before .column-at2 .ensures e (c .before .before .before .before .before .before .before .before .before .before .before .before .before .args .first) h) (c .before .before .before .before .before .before .column-at3 .ensures e (c .before .before .before .before .before .before .before .before .before .before .before .before .before .args .first) h) (c .before .before .before .before .column-at4 .ensures e (c .before .before .before .before .before .before .before .before .before .before .before .before .before .args .first) h))))
+    (λ c. search needs))

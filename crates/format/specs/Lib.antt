@@ -19,5 +19,6 @@ pub mod Lists
 pub mod Retouch
 pub mod Calls
 pub mod Desk
+pub mod Report
 pub mod Promises
 pub mod ValidStep

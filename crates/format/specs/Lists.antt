@@ -1,6 +1,6 @@
 -- Lists of calls, each on what the last one left: of any state and any kind of call.
 use mathlib.Core.List.{List, [], _∷_}
-use Prim.Native.Nat.{ℕ}
+use Prim.Native.Nat.{ℕ, _+_}
 use Rattle.format.specs.Choice.{if_then_else_}
 use Rattle.format.specs.Refusals.{accepted}
 
@@ -27,3 +27,8 @@ unfoldable pub acceptedCalls : {C : Type 0} → List ℕ → List C → List C
 acceptedCalls [] cs = []
 acceptedCalls (a ∷ rest) [] = []
 acceptedCalls (a ∷ rest) (c ∷ cs) = if accepted a then c ∷ acceptedCalls rest cs else acceptedCalls rest cs
+
+-- what g gives of each call, together
+abbrev pub total : {C : Type 0} → (C → ℕ) → List C → ℕ
+total g [] = 0
+total g (c ∷ cs) = g c + total g cs

@@ -38,6 +38,10 @@ every-at (suc n) t q h e = go (ℕ-discrete q n) (every-at n t q)
     go (yes p) ih = subst (λ (k : ℕ). t k ≡ true) (sym p) (and-left (t n) (every n t) e)
     go (no p) ih = ih (lower h p) (and-right (t n) (every n t) e)
 
+pub every-all : (n : ℕ) (t : ℕ → Bool) → ((q : ℕ) → q < n → t q ≡ true) → every n t ≡ true
+every-all zero t h = refl
+every-all (suc n) t h = and-both (t n) (every n t) (h n (omega arith)) (every-all n t (λ q l. h q (omega arith)))
+
 -- where not every number passes, one does not
 pub not-every : (n : ℕ) (t : ℕ → Bool) → every n t ≡ false → (q : ℕ) × (q < n) × (t q ≡ false)
 not-every zero t e = absurd (true≢false e)

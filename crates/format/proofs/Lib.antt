@@ -28,6 +28,7 @@ pub mod Unmade
 pub mod Steps
 pub mod Calls
 pub mod Retouching
+pub mod Report
 pub mod Demands
 pub mod Worked
 pub mod Known

@@ -6,6 +6,7 @@ use native.Mathlib.Nat.{not-suc-le-zero, le-of-suc-le-suc, zero-add}
 use native.Mathlib.Omega.{arith}
 use borrow.Author.Tests.{eq-eqb, ne-eqb}
 use lib.ListN.{length, drop, length-drop}
+use lib.Seq.{drop-drop}
 use Rattle.format.specs.Picture.{Picture, byteAt, written, writtenBytes, paint, inOrder}
 
 -- items replaced in order
@@ -56,6 +57,13 @@ unfolding writtenBytes
 byteAt-writtenBytes zero f xs i l = absurd (not-suc-le-zero l)
 byteAt-writtenBytes (suc n) f xs zero l = refl
 byteAt-writtenBytes (suc n) f xs (suc i) l = byteAt-writtenBytes n (λ j. f (suc j)) (drop 1 xs) i (le-of-suc-le-suc l)
+
+pub drop-writtenBytes : (n : ℕ) (f : ℕ → ℕ) (xs : List ℕ) → drop n (writtenBytes n f xs) ≡ drop n xs
+unfolding writtenBytes
+drop-writtenBytes zero f xs = refl
+drop-writtenBytes (suc n) f xs =
+    let s : 1 + n ≡ suc n = omega arith in
+    drop-writtenBytes n (λ i. f (suc i)) (drop 1 xs) ∙ drop-drop n 1 xs ∙ ap (λ (k : ℕ). drop k xs) s
 
 -- pixel by pixel
 

@@ -10,7 +10,7 @@ use lib.ListN.{length, drop, length-drop}
 use Rattle.format.specs.Picture.{Picture, pixels, written}
 use Rattle.format.specs.ColorTable.{hasEntry, haveEntries}
 use Rattle.format.specs.Stages.{stored}
-use Rattle.format.proofs.Choice.{every-at}
+use Rattle.format.proofs.Choice.{every-at, every-all}
 use Rattle.format.proofs.Written.{pixels-written, written-self}
 use Rattle.pixel.specs.Cells.{pixelCells, run, given}
 use Rattle.pixel.specs.Held.{HoldsRow}
@@ -21,7 +21,7 @@ use Rattle.store.specs.Scratch.{Scratch}
 use Rattle.chain.specs.declared.Chain.{Chain}
 use Rattle.store.specs.Stage.{RowOf}
 use Rattle.store.proofs.Lent.{back-length, lent-length}
-use Rattle.store.proofs.Packed.{every-all, row-entries}
+use Rattle.store.proofs.Packed.{row-entries}
 
 -- scratch at its lengths
 pub scratch-kept : (row rows row′ rows′ : List ℕ) → Scratch row rows → length row′ ≡ length row → length rows′ ≡ length rows → Scratch row′ rows′

@@ -1,5 +1,5 @@
 -- A row by itself, and the same row in its picture: its records, and its acceptance.
-use mathlib.Core.Bool.{Bool, true}
+use mathlib.Core.Bool.{true}
 use mathlib.Core.List.{List}
 use mathlib.Core.Path.{_≡_, refl, ap, _∙_}
 use Prim.Native.Nat.{ℕ, zero, suc, _+_, _*_, _<_, _≤_}
@@ -11,13 +11,12 @@ use lib.Dec.{ltb}
 use lib.ListN.{length, drop, length-drop}
 use lib.Seq.{length-take-le}
 use Rattle.format.specs.declared.Step.{Step}
-use Rattle.format.specs.Choice.{every}
 use Rattle.format.specs.Pixel.{pixel}
 use Rattle.format.specs.Picture.{Picture, pixels}
 use Rattle.format.specs.ColorTable.{perPixel, range, packedWidth, indexOf, hasEntry, haveEntries, digits, indexAt, packed}
 use Rattle.format.specs.Sizes.{Sized}
 use Rattle.format.specs.ValidStep.{ValidStep}
-use Rattle.format.proofs.Choice.{if-same, every-at, and-both}
+use Rattle.format.proofs.Choice.{if-same, every-at, every-all}
 use Rattle.format.proofs.ColorTable.{perPixel-pos}
 use Rattle.color_table.proofs.Rows.{packed-fewer}
 use Rattle.format.specs.Stages.{dataOf}
@@ -38,10 +37,6 @@ packed-in w size y e f g j l h =
     (ap (λ (d : ℕ). pixel 0 d 0 255)
     (digits-same (range n) n (λ k. indexAt w size e f 0 (j * n + k)) (λ k. indexAt w size e g y (j * n + k))
     (λ k. if-same (ltb (j * n + k) w) (λ t. ap (λ (x : ℕ). indexOf size e (f x)) (z (j * n + k)) ∙ ap (indexOf size e) (h (j * n + k) (ltb-true (j * n + k) w t))) (λ t. refl))))
-
-pub every-all : (n : ℕ) (t : ℕ → Bool) → ((q : ℕ) → q < n → t q ≡ true) → every n t ≡ true
-every-all zero t h = refl
-every-all (suc n) t h = and-both (t n) (every n t) (h n (omega arith)) (every-all n t (λ q l. h q (omega arith)))
 
 -- a row of an accepted picture
 pub row-entries : (w h size y : ℕ) (e f : Picture) (xs : List ℕ) → haveEntries size e (h * w) f ≡ true → HoldsRow f y w xs → y < h → haveEntries size e w (pixels xs) ≡ true

@@ -24,14 +24,14 @@ use Rattle.format.proofs.Marks.{marks-length, mask-small, ones-maskOf}
 use Rattle.format.proofs.Valid.{before-zero, unless-zero}
 
 -- what holds of two refusals holds of the first of them that is not 0, or of the second
-before-is : (P : ℕ → Type 0) (a b : ℕ) → ((a ≡ 0 → ⊥) → P a) → (a ≡ 0 → P b) → P (a before b)
+pub before-is : (P : ℕ → Type 0) (a b : ℕ) → ((a ≡ 0 → ⊥) → P a) → (a ≡ 0 → P b) → P (a before b)
 before-is P a b p q = go (ℕ-discrete a 0)
   where
     go : Dec (a ≡ 0) → P (a before b)
     go (yes e) = rw e (q e)
     go (no n) = rw (ne-eqb a 0 n) (p n)
 
-unless-is : (P : ℕ → Type 0) (n : ℕ) (b : Bool) → P 0 → P n → P (n unless b)
+pub unless-is : (P : ℕ → Type 0) (n : ℕ) (b : Bool) → P 0 → P n → P (n unless b)
 unless-is P n true p q = p
 unless-is P n false p q = q
 

@@ -5,7 +5,8 @@ use mathlib.Core.Logic.{_⊎_, inl, inr, _↔_}
 use mathlib.Core.Path.{_≡_, refl, sym, ap, _∙_}
 use Prim.Native.Nat.{ℕ, _+_, _*_, _≤_}
 use native.Mathlib.Nat.{le-trans}
-use lib.ListN.{length}
+use native.Mathlib.Omega.{arith}
+use lib.ListN.{length, drop}
 use Rattle.format.specs.Choice.{if_then_else_}
 use Rattle.format.specs.Picture.{Picture, byteAt, pixels, written, writtenBytes}
 use Rattle.format.specs.ColorMap.{adjusted, unadjusted, refused, colorMapAnswer, adjustColorMap, unadjustColorMap}
@@ -16,7 +17,8 @@ use Rattle.format.specs.Retouch.{differ, marks, maskOf}
 use Rattle.format.specs.Calls.{records, rebuildAnswer, rebuildImage, storeAnswer, storeStrip, touched}
 use Rattle.format.specs.Lists.{leftBy}
 use Rattle.format.specs.Desk.{Retouch, Buffers, desk, callLeaves}
-use Rattle.format.specs.Promises.{SameFront, Admitted, RebuildingExactly, StoringExactly, RebuildingAnswers, StoringAnswers, RetouchingAnswers, RebuildingRefused, StoringRefused, RetouchingRefused, RebuildsStored, StoresRebuilt, StoredPair, OneCall, left, paintedInTurn, RetouchesLikeDesk, ColorMapAnswers, ColorMapUndone, ColorMapRefused}
+use Rattle.format.specs.Report.{counter, colorCount, counterCount, reportAnswer, report, sum}
+use Rattle.format.specs.Promises.{SameFront, Admitted, RebuildingExactly, StoringExactly, RebuildingAnswers, StoringAnswers, RetouchingAnswers, RebuildingRefused, StoringRefused, RetouchingRefused, RebuildsStored, StoresRebuilt, StoredPair, OneCall, left, paintedInTurn, RetouchesLikeDesk, ColorMapAnswers, ColorMapUndone, ColorMapRefused, ReportingAnswers, ReportingRefused, ofColor, ofNone, allPixels, leftCounters, ReportsAddUp}
 use Rattle.format.proofs.Picture.{written-same}
 use Rattle.format.proofs.RoundTrips.{map-adjusted, map-unadjusted}
 use Rattle.format.proofs.Written.{bytes-pixels, pixels-written}
@@ -27,6 +29,8 @@ use Rattle.format.proofs.Chains.{chain-stored, chain-rebuilt, widthAt-u
 use Rattle.format.proofs.Calls.{rebuildAnswer-most, rebuild-accepts, rebuild-accepted, rebuildImage-accepted, rebuildImage-refused, storeAnswer-listed, store-accepts, store-accepted, storeStrip-accepted, storeStrip-refused, retouchAnswer-listed, retouch-refused}
 use Rattle.format.proofs.Marks.{marks-length, mask-small}
 use Rattle.format.proofs.Spots.{spots-few}
+use Rattle.format.proofs.Lists.{left-kept, left-total}
+use Rattle.format.proofs.Reporting.{report-numbers, report-refused, counter-adds, all-add, beyond-kept, length-kept, adds-color, adds-none, exactly}
 use Rattle.format.proofs.Retouching.{Matched, same-answer, accepts-exactly, few-moved, count-moved, listed, desk-painted}
 
 -- a refusal is not 0
@@ -188,3 +192,21 @@ module _ (w h : ℕ) (cs ds : List ℕ) where
         strip = l .strip ∙ rw (← l .read) (sym (storeStrip-accepted w h cs ds (left w h cs ds b calls .picture) (b .strip) a));
         next = λ c. one-call valid (left w h cs ds b calls) c (l .matched);
       }
+
+-- under one list of colors
+module _ (colors : List ℕ) where
+  pub reporting-answers : ReportingAnswers colors
+  reporting-answers w h picture counters = report-numbers w h picture colors counters
+
+  pub reporting-refused : ReportingRefused colors
+  reporting-refused w h picture counters e = report-refused w h picture colors counters (not-zero (reportAnswer w h picture colors counters) e) .1
+
+  pub reports-add-up : ReportsAddUp colors
+  reports-add-up counters maps = record {
+    ofEach = λ k l. left-total (report colors) (λ s. counter s k) (ofColor colors k) (λ s m. rw (← adds-color colors k m l) (counter-adds colors k (omega arith) s m)) maps counters;
+    ofOthers = left-total (report colors) (λ s. counter s (colorCount colors)) (ofNone colors) (λ s m. rw (← adds-none colors m) (counter-adds colors (colorCount colors) (omega arith) s m)) maps counters;
+    together = left-total (report colors) (λ s. sum (counterCount colors) (counter s)) allPixels (all-add colors) maps counters;
+    beyond = left-kept (report colors) (drop (8 * counterCount colors)) (beyond-kept colors) maps counters;
+    long = left-kept (report colors) length (length-kept colors) maps counters;
+    next = exactly colors (leftCounters colors counters maps);
+  }

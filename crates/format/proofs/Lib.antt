@@ -29,6 +29,7 @@ pub mod Steps
 pub mod Calls
 pub mod Retouching
 pub mod Report
+pub mod Reporting
 pub mod Demands
 pub mod Worked
 pub mod Known

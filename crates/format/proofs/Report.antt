@@ -171,9 +171,16 @@ module _ (n : ℕ) (g : ℕ → ℕ) (xs : List ℕ) where
   pub counter-written : (k : ℕ) → k < n → g k < 2 ^ 64 → counter (writtenCounters n g xs) k ≡ g k
   unfolding counter
   counter-written k l m =
-      rw (byte-written k 0 (8 * k) l (omega arith) (omega arith), byte-written k 1 (8 * k + 1) l (omega arith) refl, byte-written k 2 (8 * k + 2) l (omega arith) refl,
-      byte-written k 3 (8 * k + 2 + 1) l (omega arith) (omega arith), byte-written k 4 (8 * k + 4) l (omega arith) refl, byte-written k 5 (8 * k + 4 + 1) l (omega arith) (omega arith),
-      byte-written k 6 (8 * k + 4 + 2) l (omega arith) (omega arith), byte-written k 7 (8 * k + 4 + 2 + 1) l (omega arith) (omega arith))
+      rw (
+        byte-written k 0 (8 * k) l (omega arith) (omega arith),
+        byte-written k 1 (8 * k + 1) l (omega arith) refl,
+        byte-written k 2 (8 * k + 2) l (omega arith) refl,
+        byte-written k 3 (8 * k + 2 + 1) l (omega arith) (omega arith),
+        byte-written k 4 (8 * k + 4) l (omega arith) refl,
+        byte-written k 5 (8 * k + 4 + 1) l (omega arith) (omega arith),
+        byte-written k 6 (8 * k + 4 + 2) l (omega arith) (omega arith),
+        byte-written k 7 (8 * k + 4 + 2 + 1) l (omega arith) (omega arith),
+      )
       (rejoined (g k / 256 ^ 0) (g k / 256 ^ 1) (g k / 256 ^ 2) (g k / 256 ^ 3) (g k / 256 ^ 4) (g k / 256 ^ 5) (g k / 256 ^ 6) (g k / 256 ^ 7)
       _ _ _ _ _ _ _ _ (digit (g k) 0) (digit (g k) 1) (digit (g k) 2) (digit (g k) 3) (digit (g k) 4) (digit (g k) 5) (digit (g k) 6) (omega arith)
       ∙ div-one (g k))

@@ -3,9 +3,9 @@ use mathlib.Core.Bool.{Bool, true, false, _&&_}
 use mathlib.Core.List.{List}
 use mathlib.Core.Logic.{_⊎_, _↔_}
 use mathlib.Core.Path.{_≡_}
-use Prim.Native.Nat.{ℕ, _*_, _<_, _≤_}
+use Prim.Native.Nat.{ℕ, _+_, _*_, _^_, _<_, _≤_}
 use lib.Count as Count
-use lib.ListN.{length}
+use lib.ListN.{length, drop}
 use Rattle.format.specs.Indices.{howMany}
 use Rattle.format.specs.declared.Pixel.{Pixel}
 use Rattle.format.specs.Picture.{Picture, byteAt, pixels, written}
@@ -14,8 +14,9 @@ use Rattle.format.specs.Chain.{count}
 use Rattle.format.specs.Refusals.{accepted, sizeRefusal, ValidChain}
 use Rattle.format.specs.Retouch.{differ, answer}
 use Rattle.format.specs.Calls.{records, storable, rebuildAnswer, rebuildImage, storeAnswer, storeStrip, inside, retouchAnswer, retouchPicture, retouchStrip}
-use Rattle.format.specs.Lists.{inTurn, leftBy, answersTo, acceptedCalls}
+use Rattle.format.specs.Lists.{inTurn, leftBy, answersTo, acceptedCalls, total}
 use Rattle.format.specs.Desk.{Retouch, Buffers, paintedBy, desk, callAnswer, callLeaves, call}
+use Rattle.format.specs.Report.{pixelsOf, pixelsOfNone, counter, colorCount, counterCount, colorList, reportAnswer, reportCounters, Map, mapAnswer, report, sum}
 
 -- a buffer of bytes
 abbrev pub AreBytes : List ℕ → Type 0
@@ -155,3 +156,63 @@ abbrev pub ColorMapRefused : Type 0
 ColorMapRefused = (map : List ℕ)
     → accepted (colorMapAnswer map) ≡ false
     → (adjustColorMap map ≡ map) × (unadjustColorMap map ≡ map)
+
+-- how many pixels a map has
+abbrev pub allPixels : Map → ℕ
+allPixels m = m .height * m .width
+
+-- what reporting answers
+abbrev pub ReportNumber : ℕ → Type 0
+ReportNumber r = (r ≡ 0) ⊎ ((r ≡ 1) ⊎ ((r ≡ 8) ⊎ ((r ≡ 23) ⊎ (r ≡ 24))))
+
+-- the report (document 02, i), under one list of colors
+module _ (colors : List ℕ) where
+  -- demand 1: a call accepts its input or returns a listed number; a refusal leaves every byte
+  abbrev pub ReportingAnswers : Type 0
+  ReportingAnswers = (w h : ℕ) (picture counters : List ℕ)
+      → ReportNumber (reportAnswer w h picture colors counters)
+
+  abbrev pub ReportingRefused : Type 0
+  ReportingRefused = (w h : ℕ) (picture counters : List ℕ)
+      → accepted (reportAnswer w h picture colors counters) ≡ false
+      → reportCounters w h picture colors counters ≡ counters
+
+  -- a map's pixels of the color at k, and of none of the colors
+  abbrev pub ofColor : ℕ → Map → ℕ
+  ofColor k m = pixelsOf (pixels colors k) (allPixels m) (pixels (m .picture))
+
+  abbrev pub ofNone : Map → ℕ
+  ofNone m = pixelsOfNone (colorCount colors) (pixels colors) (allPixels m) (pixels (m .picture))
+
+  -- none of 1, 23, 8 and 24 applies: the sizes are in range, the list of colors is one, both buffers have room, and no
+  -- counter would pass 2 ^ 64 - 1
+  pub record Reportable (counters : List ℕ) (m : Map) : Type 0 where
+    pub sized : sizeRefusal (m .width) (m .height) ≡ 0
+    pub list : colorList colors ≡ true
+    pub room : 8 * counterCount colors ≤ length counters
+    pub there : 4 * allPixels m ≤ length (m .picture)
+    pub eachFits : (k : ℕ) → k < colorCount colors → counter counters k + ofColor k m < 2 ^ 64
+    pub othersFit : counter counters (colorCount colors) + ofNone m < 2 ^ 64
+
+  module _ (counters : List ℕ) (maps : List Map) where
+    abbrev pub taken : List Map
+    taken = acceptedCalls (answersTo (report colors) counters maps) maps
+
+    abbrev pub leftCounters : List ℕ
+    leftCounters = leftBy (report colors) counters maps
+
+    -- after a list of calls: each color's counter has grown by its pixels in the accepted maps, the last one by the
+    -- pixels of none of the colors, all together by all pixels; bytes beyond are those of the start; and whichever call
+    -- is next is accepted exactly if no refusal applies
+    pub record AfterReports : Type 0 where
+      pub ofEach : (k : ℕ) → k < colorCount colors → counter leftCounters k ≡ counter counters k + total (ofColor k) taken
+      pub ofOthers : counter leftCounters (colorCount colors) ≡ counter counters (colorCount colors) + total ofNone taken
+      pub together : sum (counterCount colors) (counter leftCounters)
+          ≡ sum (counterCount colors) (counter counters) + total allPixels taken
+      pub beyond : drop (8 * counterCount colors) leftCounters ≡ drop (8 * counterCount colors) counters
+      pub long : length leftCounters ≡ length counters
+      pub next : (m : Map) → (mapAnswer colors leftCounters m ≡ 0) ↔ Reportable leftCounters m
+
+  -- for every list of calls, from any counters
+  abbrev pub ReportsAddUp : Type 0
+  ReportsAddUp = (counters : List ℕ) (maps : List Map) → AfterReports counters maps

@@ -40,11 +40,11 @@ unfoldable pub writtenCounters : ℕ → (ℕ → ℕ) → List ℕ → List ℕ
 writtenCounters n g xs = writtenBytes (8 * n) (counterByte g) xs
 
 -- how many colors a list has, and how many counters go with it
-abbrev pub listed : List ℕ → ℕ
-listed colors = length colors / 4
+abbrev pub colorCount : List ℕ → ℕ
+colorCount colors = length colors / 4
 
-abbrev pub counted : List ℕ → ℕ
-counted colors = listed colors + 1
+abbrev pub counterCount : List ℕ → ℕ
+counterCount colors = colorCount colors + 1
 
 -- no two of the first m colors are alike
 unfoldable pub distinct : ℕ → Picture → Bool
@@ -55,7 +55,7 @@ abbrev pub inFours : List ℕ → Bool
 inFours colors = (leb 4 (length colors) && leb (length colors) 1024) && eqb (length colors % 4) 0
 
 unfoldable pub colorList : List ℕ → Bool
-colorList colors = inFours colors && distinct (listed colors) (pixels colors)
+colorList colors = inFours colors && distinct (colorCount colors) (pixels colors)
 
 -- a buffer has room for n counters
 abbrev pub holdsCounters : List ℕ → ℕ → Bool
@@ -65,17 +65,17 @@ holdsCounters xs n = leb (8 * n) (length xs)
 module _ (w h : ℕ) (picture colors counters : List ℕ) where
   -- counter k with what the picture adds to it
   abbrev pub grown : ℕ → ℕ
-  grown k = counter counters k + added (listed colors) (pixels colors) (h * w) (pixels picture) k
+  grown k = counter counters k + added (colorCount colors) (pixels colors) (h * w) (pixels picture) k
 
   unfoldable pub reportAnswer : ℕ
   reportAnswer =
       sizeRefusal w h
       before (23 unless colorList colors)
-      before (8 unless (holdsCounters counters (counted colors) && holds picture (h * w)))
-      before (24 unless every (counted colors) (λ k. ltb (grown k) (2 ^ 64)))
+      before (8 unless (holdsCounters counters (counterCount colors) && holds picture (h * w)))
+      before (24 unless every (counterCount colors) (λ k. ltb (grown k) (2 ^ 64)))
 
   unfoldable pub reportCounters : List ℕ
-  reportCounters = if accepted reportAnswer then writtenCounters (counted colors) grown counters else counters
+  reportCounters = if accepted reportAnswer then writtenCounters (counterCount colors) grown counters else counters
 
 -- what the calls of a list differ in: a map with its sizes
 pub record Map : Type 0 where

@@ -37,4 +37,5 @@ pub mod KnownTransforms
 pub mod KnownRefusals
 pub mod KnownChains
 pub mod KnownRetouches
+pub mod KnownReports
 pub mod Pinned

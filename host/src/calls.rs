@@ -59,6 +59,20 @@ extern "C" {
         alpha: u8,
     ) -> u32;
 
+    /// Adds the pixels of `picture` to `counters`, by color. Passes the picture's width and height, the
+    /// picture, the colors, four bytes for each, and the counters, which are written: eight bytes for
+    /// each color, lowest first, then eight for all other colors.
+    pub fn letchwater_report(
+        width: u32,
+        height: u32,
+        picture: *const u8,
+        picture_len: usize,
+        colors: *const u8,
+        colors_len: usize,
+        counters: *mut u8,
+        counters_len: usize,
+    ) -> u32;
+
     /// Adds to each entry the one before it, front to back. Passes the color map, which is written.
     pub fn letchwater_adjust_color_map(color_map: *mut u8, len: usize) -> u32;
 

@@ -4,7 +4,8 @@ mod step;
 
 pub(crate) use step::Step;
 
-use crate::{rebuild_in_place, Error, Pixel, Refusal, Size};
+use crate::error::before_buffers;
+use crate::{rebuild_in_place, Error, Pixel, Size};
 
 /// Bytes of a record.
 const RECORD: usize = 16;
@@ -147,10 +148,7 @@ impl Chain {
     /// It is asked to rebuild in a buffer of no bytes, which it refuses by 8 exactly where none of
     /// these applies.
     pub fn check(&self) -> Result<(), Error> {
-        match rebuild_in_place(self, &mut []) {
-            Err(Error::Refused(Refusal::BufferTooShort)) => Ok(()),
-            answer => answer,
-        }
+        before_buffers(rebuild_in_place(self, &mut []))
     }
 }
 

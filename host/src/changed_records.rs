@@ -78,7 +78,7 @@ mod tests {
     fn unknown() {
         let wrong_count = [256 + 1, 256 + 32, 256 + 32 + 0b11, 256 + 6 * 32 + 0b1111];
         let past_the_end = [256 + 32 + 0b10000];
-        let none = [0, 11, 23, 255, 512, u32::MAX];
+        let none = [0, 11, 33, 255, 512, u32::MAX];
         for answer in [&wrong_count[..], &past_the_end, &none].concat() {
             assert_eq!(read(answer), Err(Error::UnknownAnswer(answer)));
         }

@@ -25,6 +25,13 @@ pub enum Error {
         /// What came with it.
         given: Size,
     },
+    /// Counters that were kept are not those of a report on so many colors.
+    CounterBytes {
+        /// How many colors were listed.
+        colors: usize,
+        /// How many bytes came with them.
+        given: usize,
+    },
     /// There is no memory for so many pixels.
     OutOfMemory(Size),
 }
@@ -65,6 +72,13 @@ impl fmt::Display for Error {
                     "the chain is for {expected} pixels, and {given} were given"
                 )
             }
+            Self::CounterBytes { colors, given } => {
+                write!(
+                    f,
+                    "a report's counters take 8 bytes for each of its {colors} colors and 8 for all \
+                     others, and {given} bytes were given"
+                )
+            }
             Self::OutOfMemory(size) => write!(f, "there is no memory for {size} pixels"),
         }
     }
@@ -78,6 +92,15 @@ pub(crate) fn accepted(answer: u32) -> Result<(), Error> {
         return Ok(());
     }
     Err(refused(answer))
+}
+
+/// What is refused before buffers are looked at, by the result of a call that lent none: 8 says that
+/// nothing was.
+pub(crate) fn before_buffers(result: Result<(), Error>) -> Result<(), Error> {
+    match result {
+        Err(Error::Refused(Refusal::BufferTooShort)) => Ok(()),
+        result => result,
+    }
 }
 
 /// What an answer means that accepts nothing.
@@ -95,7 +118,7 @@ mod tests {
         for refusal in Refusal::ALL {
             assert_eq!(accepted(refusal.number()), Err(Error::Refused(refusal)));
         }
-        for unknown in [11, 20, 23, 255, 256, u32::MAX] {
+        for unknown in [11, 20, 33, 255, 256, u32::MAX] {
             assert_eq!(accepted(unknown), Err(Error::UnknownAnswer(unknown)));
             let text = Error::UnknownAnswer(unknown).to_string();
             assert!(text.contains(&unknown.to_string()), "{text}");

@@ -8,6 +8,7 @@ mod error;
 mod picture;
 mod pixel;
 mod refusal;
+mod report;
 mod spots;
 mod stored_picture;
 
@@ -17,6 +18,7 @@ pub use error::Error;
 pub use picture::{Picture, Point, Size, Strip};
 pub use pixel::Pixel;
 pub use refusal::Refusal;
+pub use report::Report;
 pub use stored_picture::StoredPicture;
 
 use error::accepted;
@@ -120,6 +122,32 @@ pub fn retouch_in_place(
         )
     };
     ChangedRecords::read(answer, chain, point)
+}
+
+/// Adds the pixels of the picture at the front of one buffer to the counters at the front of another:
+/// 8 bytes for each of `colors`, which are 4 bytes each, then 8 for all other colors. Both buffers may
+/// be longer; bytes beyond the counters stay.
+pub fn report_into(
+    size: Size,
+    picture: &[u8],
+    colors: &[u8],
+    counters: &mut [u8],
+) -> Result<(), Error> {
+    let Size { width, height } = size;
+    // SAFETY: each pointer and length are those of a slice, and the slice that is written is lent to
+    // nobody else.
+    accepted(unsafe {
+        calls::letchwater_report(
+            width,
+            height,
+            picture.as_ptr(),
+            picture.len(),
+            colors.as_ptr(),
+            colors.len(),
+            counters.as_mut_ptr(),
+            counters.len(),
+        )
+    })
 }
 
 /// The finished entries of a color map as it stands in the file, where each but the first is given

@@ -1,5 +1,7 @@
 //! A pixel by value.
 
+use std::fmt;
+
 /// Four bytes: a color, a residual, or what a block of a transform holds.
 #[derive(Clone, Copy, Debug, Default, PartialEq, Eq, PartialOrd, Ord, Hash)]
 pub struct Pixel {
@@ -47,6 +49,13 @@ impl Pixel {
     /// The bytes R, G, B, A.
     pub const fn to_bytes(self) -> [u8; 4] {
         [self.red, self.green, self.blue, self.alpha]
+    }
+}
+
+/// `#rrggbbaa`.
+impl fmt::Display for Pixel {
+    fn fmt(&self, f: &mut fmt::Formatter<'_>) -> fmt::Result {
+        write!(f, "#{:08x}", u32::from_be_bytes(self.to_bytes()))
     }
 }
 

@@ -5,7 +5,7 @@ use std::fmt;
 /// Why the library refused a call. A refused call has changed no byte.
 ///
 /// The library tests 1 and 2, then 3 to 7 on each record of the chain in turn, then 8, 9, and 21 or
-/// 22, and answers the first that applies.
+/// 22, and answers the first that applies. A report tests 1, 23, 8 and 24.
 #[derive(Clone, Copy, Debug, PartialEq, Eq, Hash)]
 #[non_exhaustive]
 pub enum Refusal {
@@ -33,11 +33,15 @@ pub enum Refusal {
     NoEntry,
     /// 22: retouching, a pixel that would then reach the color table has no entry.
     NoEntryForRetouch,
+    /// 23: a report's list of colors has one twice, or is not 1 to 256 colors of 4 bytes.
+    ColorList,
+    /// 24: a report's counter would pass 2^64 - 1.
+    CounterOverflow,
 }
 
 impl Refusal {
     /// Every refusal, in the order of the numbers.
-    pub const ALL: [Self; 12] = [
+    pub const ALL: [Self; 14] = [
         Self::SizeOutOfRange,
         Self::ChainLength,
         Self::UnknownKind,
@@ -50,6 +54,8 @@ impl Refusal {
         Self::ColorMapLength,
         Self::NoEntry,
         Self::NoEntryForRetouch,
+        Self::ColorList,
+        Self::CounterOverflow,
     ];
 
     /// The number that the library answers.
@@ -67,6 +73,8 @@ impl Refusal {
             Self::ColorMapLength => 10,
             Self::NoEntry => 21,
             Self::NoEntryForRetouch => 22,
+            Self::ColorList => 23,
+            Self::CounterOverflow => 24,
         }
     }
 
@@ -97,7 +105,9 @@ impl Refusal {
                  bytes for each block, a color table 4 for each entry, subtract green none"
             }
             Self::BeyondData => "a record of the chain names data beyond the end of the data given",
-            Self::BufferTooShort => "a buffer is too short for the picture or for the strip",
+            Self::BufferTooShort => {
+                "a buffer is too short for the picture, for the strip, or for a report's counters"
+            }
             Self::PointOutside => {
                 "the point is outside the picture: columns and rows count from 0, and end before the \
                  picture's width and height"
@@ -111,6 +121,14 @@ impl Refusal {
                 "the pixel cannot take this color: what would then reach the color table has no entry \
                  there; choose another color, or store the painted picture with a table that has the \
                  entry"
+            }
+            Self::ColorList => {
+                "a report takes a list of 1 to 256 colors, 4 bytes for each, and this one has another \
+                 length or a color twice; list each color once"
+            }
+            Self::CounterOverflow => {
+                "the picture cannot be counted: a counter of the report would pass 2^64 - 1, the most \
+                 that it holds; begin another report with this picture"
             }
         }
     }
@@ -129,9 +147,9 @@ mod tests {
     use super::*;
 
     #[test]
-    fn numbers_are_those_of_document_01() {
+    fn numbers_are_those_of_documents_01_and_02() {
         let numbers = Refusal::ALL.map(Refusal::number);
-        assert_eq!(numbers, [1, 2, 3, 4, 5, 6, 7, 8, 9, 10, 21, 22]);
+        assert_eq!(numbers, [1, 2, 3, 4, 5, 6, 7, 8, 9, 10, 21, 22, 23, 24]);
     }
 
     #[test]

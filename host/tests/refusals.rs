@@ -1,9 +1,9 @@
 //! Every refusal, through the calls: its number, and that no byte was changed.
 
 use letchwater::{
-    adjust_color_map, adjust_color_map_in_place, rebuild, rebuild_in_place, retouch_in_place,
-    store, store_into, unadjust_color_map, unadjust_color_map_in_place, Chain, Error, Picture,
-    Pixel, Point, Refusal, Size, StoredPicture, Strip,
+    adjust_color_map, adjust_color_map_in_place, rebuild, rebuild_in_place, report_into,
+    retouch_in_place, store, store_into, unadjust_color_map, unadjust_color_map_in_place, Chain,
+    Error, Picture, Pixel, Point, Refusal, Report, Size, StoredPicture, Strip,
 };
 
 const SIZE: Size = Size::new(9, 2);
@@ -56,6 +56,19 @@ fn refuses_to_retouch(chain: &Chain, picture: usize, strip: usize, refusal: Refu
     assert_eq!((picture, strip), before);
 }
 
+/// The colors A and B, and three counters.
+const COLORS: [u8; 8] = [1, 2, 3, 4, 5, 6, 7, 8];
+const COUNTERS: usize = 24;
+
+/// With counters of the largest number, of which any pixel is one too many: that is looked at last.
+fn refuses_to_report(size: Size, picture: usize, colors: &[u8], counters: usize, refusal: Refusal) {
+    let picture = &A.to_bytes().repeat(18)[..picture];
+    let mut counters = vec![0xFF; counters];
+    let answer = report_into(size, picture, colors, &mut counters);
+    assert_eq!(answer, Err(Error::Refused(refusal)));
+    assert!(counters.iter().all(|&byte| byte == 0xFF));
+}
+
 #[test]
 fn number_1() {
     let limit = 16384;
@@ -66,10 +79,10 @@ fn number_1() {
         (9, limit + 1),
         (u32::MAX, u32::MAX),
     ] {
-        refuses(
-            &Chain::new(Size::new(width, height)),
-            Refusal::SizeOutOfRange,
-        );
+        let size = Size::new(width, height);
+        refuses(&Chain::new(size), Refusal::SizeOutOfRange);
+        refuses_to_report(size, PICTURE, &COLORS, COUNTERS, Refusal::SizeOutOfRange);
+        refuses_to_report(size, 0, &[], 0, Refusal::SizeOutOfRange);
     }
     assert_eq!(Chain::new(Size::new(limit, limit)).check(), Ok(()));
 }
@@ -145,6 +158,18 @@ fn number_8() {
     refuses_to_retouch(&table(), PICTURE, strip - 1, Refusal::BufferTooShort);
     let picture = A.to_bytes().repeat(18);
     assert_eq!(store_into(&table(), &picture, &mut vec![0; strip]), Ok(()));
+
+    for (picture, counters) in [
+        (PICTURE - 1, COUNTERS),
+        (0, COUNTERS),
+        (PICTURE, COUNTERS - 1),
+        (PICTURE, COUNTERS - 8),
+        (PICTURE, 0),
+    ] {
+        refuses_to_report(SIZE, picture, &COLORS, counters, Refusal::BufferTooShort);
+    }
+    let mut counters = [0; COUNTERS];
+    assert_eq!(report_into(SIZE, &picture, &COLORS, &mut counters), Ok(()));
 }
 
 /// A refused retouch of a picture all of A leaves both as they were.
@@ -214,6 +239,57 @@ fn number_22() {
     let residuals = [Pixel::new(1, 2, 3, 5), Pixel::new(0, 0, 0, 0)];
     let chain = left.color_table(&residuals);
     refuses_point_or_color(chain, last, B, Refusal::NoEntryForRetouch);
+}
+
+/// So many colors, no two alike.
+fn distinct(count: u16) -> Vec<Pixel> {
+    let pixel = |[low, high]: [u8; 2]| Pixel::new(low, 0, high, 0);
+    (0..count).map(|i| pixel(i.to_le_bytes())).collect()
+}
+
+/// The call with buffers and without, which are looked at later, and the list by itself.
+fn refuses_list(colors: &[Pixel]) {
+    let bytes: Vec<u8> = colors.iter().flat_map(|color| color.to_bytes()).collect();
+    refuses_to_report(SIZE, 0, &bytes, 0, Refusal::ColorList);
+    refuses_to_report(SIZE, PICTURE, &bytes, 8 * 301, Refusal::ColorList);
+    assert_eq!(Report::new(colors), Err(Error::Refused(Refusal::ColorList)));
+}
+
+#[test]
+fn number_23() {
+    for count in [0, 257, 300] {
+        refuses_list(&distinct(count));
+    }
+    for (first, second) in [(0, 1), (0, 255), (100, 200), (254, 255)] {
+        let mut colors = distinct(256);
+        assert!(Report::new(&colors).is_ok());
+        colors[second] = colors[first];
+        refuses_list(&colors);
+    }
+    let bytes = distinct(257).into_iter().flat_map(Pixel::to_bytes);
+    let bytes: Vec<u8> = bytes.collect();
+    for len in [1, 3, 5, 7, 1021, 1023, 1025, 1027] {
+        refuses_to_report(SIZE, PICTURE, &bytes[..len], 8 * 301, Refusal::ColorList);
+    }
+}
+
+/// Each of three counters by itself, up to the last pixel that it takes.
+#[test]
+fn number_24() {
+    refuses_to_report(SIZE, PICTURE, &COLORS, COUNTERS, Refusal::CounterOverflow);
+    let other = Pixel::new(1, 2, 3, 5);
+    let picture = Picture::from_pixels(SIZE, [A, B, other].repeat(6)).unwrap();
+    let refused = Err(Error::Refused(Refusal::CounterOverflow));
+    for counter in 0..3 {
+        for (room, answer, added) in [(0, refused, 0), (5, refused, 0), (6, Ok(()), 6)] {
+            let mut counts = [0, 1, 2];
+            counts[counter] = u64::MAX - room;
+            let kept = counts.map(u64::to_le_bytes).concat();
+            let mut report = Report::from_counters(&[A, B], kept).unwrap();
+            assert_eq!(report.add(&picture), answer);
+            assert!(report.counts().eq(counts.map(|count| count + added)));
+        }
+    }
 }
 
 /// The chain is refused before the size is compared, and memory is taken for no refused size.

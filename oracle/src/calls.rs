@@ -62,6 +62,22 @@ pub fn store(
     }
 }
 
+pub fn report(width: u32, height: u32, picture: &[u8], colors: &[u8], counters: &mut [u8]) -> u32 {
+    // SAFETY: each pointer goes with its slice's length, and nobody else holds `counters`.
+    unsafe {
+        calls::letchwater_report(
+            width,
+            height,
+            picture.as_ptr(),
+            picture.len(),
+            colors.as_ptr(),
+            colors.len(),
+            counters.as_mut_ptr(),
+            counters.len(),
+        )
+    }
+}
+
 pub fn retouch(
     width: u32,
     height: u32,

@@ -256,7 +256,7 @@ impl Given {
 }
 
 /// A color that differs from an entry in few bits, and is none.
-fn no_entry(random: &mut Xorshift, entries: &[[u8; 4]]) -> [u8; 4] {
+pub fn no_entry(random: &mut Xorshift, entries: &[[u8; 4]]) -> [u8; 4] {
     let mut color = random.choose(entries);
     while entries.contains(&color) {
         color[random.below(4)] ^= 1 << random.below(8);

@@ -34,6 +34,12 @@ pub mod damage;
 pub mod scenes;
 
 #[cfg(rust_source)]
+pub mod shipments;
+
+#[cfg(rust_source)]
+pub mod report_damage;
+
+#[cfg(rust_source)]
 mod cases;
 
 #[cfg(rust_source)]
@@ -41,6 +47,9 @@ mod chain_cases;
 
 #[cfg(rust_source)]
 mod retouch_cases;
+
+#[cfg(rust_source)]
+mod report_cases;
 
 #[cfg(rust_source)]
 pub mod list;

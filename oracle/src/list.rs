@@ -36,7 +36,8 @@
 //! what the buffer held.
 //!
 //! A list of retouches on the same buffers has these 16 bytes, then chain, data, picture and strip
-//! before the list, the calls, picture and strip after the list. Such cases stand last.
+//! before the list, the calls, picture and strip after the list. Such cases stand after those of
+//! one call.
 //!
 //! | at | bytes | field |
 //! |---|---|---|
@@ -59,6 +60,29 @@
 //! | 12 | 4 | the expected answer |
 //!
 //! Either buffer may be longer than needed or, where the answer is 8, too short.
+//!
+//! A list of reports under the same colors has these 16 bytes, then the colors, the counters'
+//! buffer before the list, the calls, and the counters' buffer after the list. Such cases stand
+//! last.
+//!
+//! | at | bytes | field |
+//! |---|---|---|
+//! | 0 | 1 | call: report 8 |
+//! | 1 | 1 | the number of calls, at least 1 |
+//! | 2 | 2 | length of the colors, which may be out of range |
+//! | 4 | 2 | length of the counters' buffer |
+//! | 6 | 10 | zero |
+//!
+//! A call has 16 bytes, and then the picture's buffer:
+//!
+//! | at | bytes | field |
+//! |---|---|---|
+//! | 0 | 4 | width, which may be out of range |
+//! | 4 | 4 | height, likewise |
+//! | 8 | 4 | length of the picture's buffer |
+//! | 12 | 4 | the expected answer |
+//!
+//! These buffers too may be longer than needed or, where the answer is 8, too short.
 
 use crate::cases::{
     color_cases, color_map_cases, color_table_cases, predictor_cases, subtract_green_cases,
@@ -68,6 +92,7 @@ use crate::given::Given;
 use crate::model;
 use crate::random::Xorshift;
 use crate::reference::picture_len;
+use crate::report_cases::{full_cases, list_cases, refused_reports, shipment_cases, twice_cases};
 use crate::retouch_cases::{desk_cases, refused_cases};
 use crate::{color, color_map, color_table, predictor, subtract_green};
 
@@ -204,6 +229,17 @@ pub fn answers() -> Vec<u8> {
         }
     }
     for cases in [desk_cases, refused_cases] {
+        for case in cases(&mut Xorshift::new(SEED)) {
+            case.write(&mut list);
+        }
+    }
+    for cases in [
+        shipment_cases,
+        list_cases,
+        twice_cases,
+        full_cases,
+        refused_reports,
+    ] {
         for case in cases(&mut Xorshift::new(SEED)) {
             case.write(&mut list);
         }

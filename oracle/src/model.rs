@@ -1,16 +1,18 @@
-//! Document 01 as a plain program: what each call answers, and every byte that it leaves. It is
-//! written from that paper's sentences alone. Rebuilding is the Rust's calls in reverse; storing,
-//! which the Rust has not, is written out.
+//! Document 01, and document 02 as far as it is here, as a plain program: what each call answers,
+//! and every byte that it leaves. It is written from these papers' sentences alone. Rebuilding is
+//! the Rust's calls in reverse; what the Rust has not is written out.
 
 mod chain;
 mod desk;
 mod forward;
+mod report;
 mod retouch;
 mod spots;
 
 pub use chain::{indices_in_byte, Chain, Step, Transform, KINDS};
 pub use desk::Desk;
 use forward::Pixel;
+pub use report::{counter_of, report};
 pub use retouch::retouch;
 
 /// The number that `letchwater_rebuild` has to return; `image` is left as the call has to leave it.

@@ -14,4 +14,5 @@ fn quick_run_agrees() {
     assert!(run.status.success(), "{errors}");
     let printed = String::from_utf8_lossy(&run.stdout);
     assert!(printed.contains("lines agree"), "{printed}");
+    assert!(printed.contains("lines of reports agree"), "{printed}");
 }

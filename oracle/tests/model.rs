@@ -1,4 +1,4 @@
-//! The model on document 01's known pictures, without Letchwater.
+//! The model on document 01's known pictures and on document 02's sentences, without Letchwater.
 
 #[cfg(not(rust_source))]
 #[test]
@@ -102,5 +102,104 @@ mod known {
         };
         assert_eq!((answer(16384, &[]), answer(16385, &[])), (0, 1));
         assert_eq!((answer(1, &table(256)), answer(1, &table(257))), (0, 5));
+    }
+}
+
+/// What document 02 (i) says, sentence by sentence.
+#[cfg(rust_source)]
+mod reports {
+    use oracle::model;
+
+    const PAPER: [u8; 4] = [200, 180, 90, 255];
+    const METAL: [u8; 4] = [200, 180, 90, 254];
+    const BELT: [u8; 4] = [0, 0, 0, 255];
+
+    fn report(picture: &[[u8; 4]], colors: &[[u8; 4]], counters: &mut [[u8; 8]]) -> u32 {
+        let (picture, colors) = (picture.as_flattened(), colors.as_flattened());
+        let width = picture.len() as u32 / 4;
+        model::report(width, 1, picture, colors, counters.as_flattened_mut())
+    }
+
+    /// "One 8-byte little-endian counter for each, then one for all other colors, without header."
+    #[test]
+    fn one_picture() {
+        let picture = [PAPER, BELT, PAPER, METAL, BELT, BELT];
+        let mut counters = [
+            [0; 8],
+            [255, 2, 0, 0, 0, 0, 0, 7],
+            [254, 255, 0, 0, 0, 0, 0, 0],
+        ];
+        assert_eq!(report(&picture, &[PAPER, METAL], &mut counters), 0);
+        assert_eq!(counters[0], [2, 0, 0, 0, 0, 0, 0, 0]);
+        assert_eq!(counters[1], [0, 3, 0, 0, 0, 0, 0, 7]);
+        assert_eq!(counters[2], [1, 0, 1, 0, 0, 0, 0, 0]);
+    }
+
+    /// "A call adds one picture to the counters." "Colors compare in all four bytes."
+    #[test]
+    fn two_pictures() {
+        let mut counters = [[0; 8]; 3];
+        for picture in [&[PAPER, PAPER, METAL][..], &[BELT, METAL]] {
+            assert_eq!(report(picture, &[METAL, PAPER], &mut counters), 0);
+        }
+        assert_eq!(counters.map(u64::from_le_bytes), [2, 2, 1]);
+        for byte in 0..4 {
+            let mut near = PAPER;
+            near[byte] ^= 128;
+            let mut counters = [[0; 8]; 2];
+            assert_eq!(report(&[near], &[PAPER], &mut counters), 0);
+            assert_eq!(counters.map(u64::from_le_bytes), [0, 1]);
+        }
+    }
+
+    /// "A color listed twice, or a list not of 4 to 1024 bytes in fours, tested after 1."
+    #[test]
+    fn lists() {
+        let answer = |width, colors: &[u8]| {
+            let mut counters = vec![0; 8 * 258];
+            model::report(width, 1, &PAPER, colors, &mut counters)
+        };
+        let distinct: Vec<u8> = (0..257u32).flat_map(u32::to_le_bytes).collect();
+        for len in 0..=distinct.len() {
+            let listed = len % 4 == 0 && (1..=256).contains(&(len / 4));
+            assert_eq!(answer(1, &distinct[..len]), if listed { 0 } else { 23 });
+        }
+        let twice = [PAPER, METAL, PAPER].concat();
+        assert_eq!((answer(1, &twice), answer(1, &twice[..8])), (23, 0));
+        assert_eq!((answer(0, &twice), answer(16385, &twice)), (1, 1));
+    }
+
+    /// "Under 8 bytes for each counter gets 8", after 23. Then the picture.
+    #[test]
+    fn short_buffers() {
+        let answer = |pixels: usize, colors: &[[u8; 4]], len: usize| {
+            let (picture, mut counters) = (PAPER.repeat(pixels), vec![165; len]);
+            let colors = colors.as_flattened();
+            let answer = model::report(2, 3, &picture, colors, &mut counters);
+            assert!(answer == 0 || counters == vec![165; len]);
+            answer
+        };
+        assert_eq!(answer(6, &[PAPER], 16), 0);
+        assert_eq!((answer(6, &[PAPER], 15), answer(5, &[PAPER], 16)), (8, 8));
+        assert_eq!(
+            (answer(6, &[PAPER, METAL], 23), answer(7, &[PAPER], 17)),
+            (8, 0)
+        );
+        assert_eq!(answer(0, &[PAPER, PAPER], 0), 23);
+    }
+
+    /// "A counter would pass 2^64 − 1, tested last." "A refused one leaves the counters."
+    #[test]
+    fn full_counters() {
+        let full = u64::MAX.to_le_bytes();
+        let room = (u64::MAX - 1).to_le_bytes();
+        let mut counters = [[0; 8], room];
+        assert_eq!(report(&[PAPER, BELT], &[PAPER], &mut counters), 0);
+        assert_eq!(counters, [1u64.to_le_bytes(), full]);
+        assert_eq!(report(&[PAPER, BELT], &[PAPER], &mut counters), 24);
+        assert_eq!(counters, [1u64.to_le_bytes(), full]);
+        assert_eq!(report(&[PAPER], &[PAPER], &mut counters), 0);
+        assert_eq!(counters, [2u64.to_le_bytes(), full]);
+        assert_eq!(report(&[BELT], &[PAPER], &mut counters[1..]), 8);
     }
 }

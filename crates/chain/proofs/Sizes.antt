@@ -11,7 +11,7 @@ use Rattle.format.specs.Sizes.{Sized}
 use Rattle.format.specs.Refusals.{inRange, recordsRefusal, inputRefusal, _unless_}
 use Rattle.format.specs.Calls.{holds, pairRefusal}
 use Rattle.format.specs.Chain.{count}
-use Rattle.format.proofs.Choice.{and-left, and-right, and-both}
+use Rattle.format.proofs.Choice.{and-left, and-right, and-both, and-false-left, and-false-right}
 use Rattle.format.proofs.Valid.{before-none, before-some, chain-unsized, chain-broken, chain-records}
 use Rattle.chain.specs.declared.Chain.{Chain}
 use Rattle.chain.specs.Valid.{pixelsIn, recordsIn}
@@ -29,13 +29,6 @@ sized w h wide tall = record {
   tall = leb-true 1 h (and-left (leb 1 h) (leb h 16384) tall);
   low = leb-true h 16384 (and-right (leb 1 h) (leb h 16384) tall);
 }
-
-and-false-left : (a b : Bool) → a ≡ false → (a && b) ≡ false
-and-false-left a b e = rw e refl
-
-and-false-right : (a b : Bool) → b ≡ false → (a && b) ≡ false
-and-false-right true b e = e
-and-false-right false b e = refl
 
 module _ (w h : ℕ) (cs ds : List ℕ) where
   pub too-wide : inRange w ≡ false → inputRefusal w h cs ds ≡ 1

@@ -45,7 +45,7 @@ fn le16(xs: &[u8], i: usize) -> usize
     xs[i] as usize + 256 * (xs[i + 1] as usize)
 }
 
-fn le32(xs: &[u8], i: usize) -> usize
+pub fn le32(xs: &[u8], i: usize) -> usize
     requires { ⌜ i + 4 ≤ length (now xs) ⌝ }
     ensures { λ r. ⌜ (r ≡ le32Of (now (xs .entry)) i) × (r < 4294967296) ⌝ }
 {
@@ -267,7 +267,7 @@ fn read_records(width: usize, height: usize, chain: &[u8], data: &[u8]) -> Chain
     }
 }
 
-fn in_range(size: usize) -> bool
+pub fn in_range(size: usize) -> bool
     ensures { λ r. ⌜ r ≡ inRange size ⌝ }
 {
     if size < 1 {

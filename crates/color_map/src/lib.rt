@@ -50,7 +50,7 @@ fn unadjust(color_map: &mut [u8])
 }
 
 // Refusal 10: the length of a color map is 0, over 1024 or not a multiple of 4.
-fn refused(length: usize) -> bool
+pub fn refused(length: usize) -> bool
     ensures { λ r. ⌜ r ≡ refusedLength length ⌝ }
 {
     if length == 0 {

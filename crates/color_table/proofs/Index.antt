@@ -1,6 +1,5 @@
--- The lowest index of a pixel, by looking at each entry and by a hint.
+-- The lowest index of a pixel, by looking at each entry; pixels that are one of two; acceptance.
 use mathlib.Core.Bool.{Bool, true, false, _&&_, _||_}
-use mathlib.Core.List.{List}
 use mathlib.Core.Path.{_≡_, refl, sym, ap, _∙_}
 use Prim.Native.Nat.{ℕ, zero, suc, _+_, _-_, _*_, _<_, _≤_}
 use native.Mathlib.Nat.{zero-add, add-zero}
@@ -8,17 +7,15 @@ use native.Mathlib.Decide.{ℕ-discrete, decLt}
 use native.Mathlib.Omega.{arith}
 use borrow.Author.Tests.{lt-ltb, le-ltb, ltb-true}
 use lib.Dec.{ltb}
-use lib.ListN.{length, set, length-set, replicate, getD-replicate, length-replicate, List·getD-eq-default}
-use lib.Seq.{getD-set-same, getD-set-other}
 use Rattle.format.specs.declared.Pixel.{Pixel}
 use Rattle.format.specs.Choice.{if_then_else_}
 use Rattle.format.specs.Pixel.{equal}
-use Rattle.format.specs.Picture.{Picture, byteAt}
+use Rattle.format.specs.Picture.{Picture}
 use Rattle.format.specs.ColorTable.{lowest, indexOf, hasEntry, haveEntries}
-use Rattle.format.proofs.Choice.{every-at, and-both, and-left, and-right}
+use Rattle.format.proofs.Choice.{every-at, and-both, and-left, and-right, and-false-right}
 use Rattle.format.proofs.Pixels.{equal-true, equal-refl}
-use Rattle.format.proofs.ColorTable.{lowest-hit, lowest-least}
-use Rattle.color_table.specs.Pack.{Hints, oneOf, EachOf, EachHas, rowIndices}
+use Rattle.format.proofs.ColorTable.{lowest-hit, lowest-least, index-least}
+use Rattle.color_table.specs.Pack.{oneOf, EachOf, EachHas, rowIndices}
 
 -- looking at each entry
 
@@ -107,70 +104,16 @@ before-all i j r h l = go (decLt i j)
     go (yes a) = rw (lt-ltb i j a) at h
     go (no a) = let k : j ≤ i = omega arith in let x = rw (le-ltb i j k) at h in omega arith
 
--- hints
-
-pub zeros : (n s : ℕ) → byteAt (replicate n 0) s ≡ 0
-zeros n s = go (decLt s n)
-  where
-    go : Dec (s < n) → byteAt (replicate n 0) s ≡ 0
-    go (yes l) = getD-replicate n s 0 0 l
-    go (no l) = let k : length (replicate {A = ℕ} n 0) ≡ n = length-replicate n 0 in List·getD-eq-default (replicate n 0) 0 {n = s} (omega arith)
+-- pixels that have entries
 
 module _ (size : ℕ) (e : Picture) where
-  -- an index that was found is the lowest of its entry
-  found-least : (v : Pixel) (k : ℕ) → k ≡ indexOf size e v → k < size → indexOf size e (e k) ≡ k
-  found-least v k q l =
-      let h : e (indexOf size e v) ≡ v = lowest-hit e v size 0 (rw (zero-add size, ← q) l) in
-      ap (λ (j : ℕ). indexOf size e (e j)) q ∙ ap (indexOf size e) h ∙ sym q
-
-  -- an entry has an index
-  pub own-index : (i k : ℕ) (w : Pixel) → w ≡ e i → k ≡ indexOf size e w → i < size → k < size
-  own-index i k w q r l =
-      let m : indexOf size e w ≤ i = lowest-least e w size 0 i (omega arith) (sym q) (omega arith) in
-      omega arith
-
   -- v where it was found, or is u, which has one
   pub known-entry : (u v : Pixel) (s t : Bool) → (s ≡ true → hasEntry size e v ≡ true) → t ≡ equal v u → hasEntry size e u ≡ true → (s || t) ≡ true → hasEntry size e v ≡ true
   known-entry u v true t h q x r = h refl
   known-entry u v false t h q x r = rw (equal-true v u (sym q ∙ r)) x
 
   pub entry-accepted : (i : ℕ) (w : Pixel) → w ≡ e i → i < size → hasEntry size e w ≡ true
-  entry-accepted i w q l = lt-ltb (indexOf size e w) size (own-index i (indexOf size e w) w q refl l)
-
-  pub hints-none : (hs : List ℕ) → length hs ≡ 4096 → ((s : ℕ) → byteAt hs s ≡ 0) → 1 ≤ size → Hints size e hs
-  hints-none hs l z pos =
-      let first : indexOf size e (e 0) ≤ 0 = lowest-least e (e 0) size 0 0 (omega arith) refl (omega arith) in
-      let zero-is : indexOf size e (e 0) ≡ 0 = omega arith in
-      record {
-        full = l;
-        below = λ s. rw (z s) pos;
-        least = λ s. rw (z s) zero-is;
-      }
-
-  pub hint-hit : (hs : List ℕ) (s : ℕ) (v : Pixel) (b : Bool) (u : Pixel) → Hints size e hs → u ≡ e (byteAt hs s) → b ≡ equal u v → b ≡ true → byteAt hs s ≡ indexOf size e v
-  hint-hit hs s v b u h p q t = sym (ap (indexOf size e) (sym (equal-true u v (sym q ∙ t)) ∙ p) ∙ h .least s)
-
-  pub hint-put : (hs : List ℕ) (s k : ℕ) (v : Pixel) → Hints size e hs → k ≡ indexOf size e v → k < size → Hints size e (set hs s k)
-  hint-put hs s k v h q l = record {
-    full = length-set hs s k ∙ h .full;
-    below = λ j. below j (decLt s (length hs)) (ℕ-discrete j s);
-    least = λ j. least j (decLt s (length hs)) (ℕ-discrete j s);
-  }
-    where
-      below : (j : ℕ) → Dec (s < length hs) → Dec (j ≡ s) → byteAt (set hs s k) j < size
-      below j (yes u) (yes p) = rw (p, getD-set-same hs s k 0 u) l
-      below j (yes u) (no n) = rw (getD-set-other hs s j k 0 n) (h .below j)
-      below j (no u) (yes p) = let o = length-set hs s k in rw (p, List·getD-eq-default (set hs s k) 0 {n = s} (omega arith)) (omega arith)
-      below j (no u) (no n) = rw (getD-set-other hs s j k 0 n) (h .below j)
-
-      least : (j : ℕ) → Dec (s < length hs) → Dec (j ≡ s) → indexOf size e (e (byteAt (set hs s k) j)) ≡ byteAt (set hs s k) j
-      least j (yes u) (yes p) = rw (p, getD-set-same hs s k 0 u) (found-least v k q l)
-      least j (yes u) (no n) = rw (getD-set-other hs s j k 0 n) (h .least j)
-      least j (no u) (yes p) =
-          let o = length-set hs s k in
-          let d = List·getD-eq-default hs 0 {n = s} (omega arith) in
-          rw (p, List·getD-eq-default (set hs s k) 0 {n = s} (omega arith)) (rw d at (h .least s))
-      least j (no u) (no n) = rw (getD-set-other hs s j k 0 n) (h .least j)
+  entry-accepted i w q l = lt-ltb (indexOf size e w) size (omega (arith, index-least size e w i l (sym q)))
 
 -- pixels that are one of two
 
@@ -203,12 +146,12 @@ each-both u v f i s t h d r k l = go (decLt k 8)
     go (no m) = let e : i + 8 + (k - 8) ≡ i + k = omega arith in rw e at (d (and-right s t r) (k - 8) (omega arith))
 
 -- m pixels more that are u or v
-pub each-next : (u v : Pixel) (f : Picture) (i m : ℕ) → EachOf u v f 0 i → EachOf u v f i m → EachOf u v f 0 (i + m)
-each-next u v f i m h d k l = go (decLt k i)
+pub each-next : (u v : Pixel) (f : Picture) (a i m : ℕ) → a ≤ i → EachOf u v f a (i - a) → EachOf u v f i m → EachOf u v f a (i + m - a)
+each-next u v f a i m s h d k l = go (decLt (a + k) i)
   where
-    go : Dec (k < i) → oneOf u v (f (0 + k)) ≡ true
-    go (yes s) = h k s
-    go (no s) = let e : i + (k - i) ≡ 0 + k = omega arith in rw e at (d (k - i) (omega arith))
+    go : Dec (a + k < i) → oneOf u v (f (a + k)) ≡ true
+    go (yes b) = h k (omega arith)
+    go (no b) = let e : i + (a + k - i) ≡ a + k = omega arith in rw e at (d (a + k - i) (omega arith))
 
 -- a group more that is v
 pub all-more : (v : Pixel) (f : Picture) (a g : ℕ) → ((q : ℕ) → a ≤ q → q < 16 * g → f q ≡ v) → EachOf v v f (16 * g) 16 → (q : ℕ) → a ≤ q → q < 16 * (g + 1) → f q ≡ v
@@ -221,10 +164,6 @@ all-more v f a g h d q l u = go (decLt q (16 * g))
         rw e at (equal-true (f (16 * g + (q - 16 * g))) v (each-passes v v f (16 * g) 16 (λ p. equal p v) d (equal-refl v) (equal-refl v) (q - 16 * g) (omega arith)))
 
 -- acceptance
-
-and-false : (a b : Bool) → false ≡ b → false ≡ (a && b)
-and-false true b q = q
-and-false false b q = refl
 
 module _ (size : ℕ) (e f : Picture) where
   pub accepted-more : (i k : ℕ) (u : Pixel) → haveEntries size e i f ≡ true → u ≡ f i → k ≡ indexOf size e u → k < size → haveEntries size e (i + 1) f ≡ true
@@ -255,8 +194,10 @@ module _ (size : ℕ) (e f : Picture) where
   pub accepted-each : (u v : Pixel) (i n : ℕ) → EachOf u v f i n → haveEntries size e i f ≡ true → hasEntry size e u ≡ true → hasEntry size e v ≡ true → haveEntries size e (i + n) f ≡ true
   accepted-each u v i n h t a b = accepted-has i n (each-passes u v f i n (hasEntry size e) h a b) t
 
-  pub accepted-front : (u v : Pixel) (n : ℕ) → EachOf u v f 0 n → hasEntry size e u ≡ true → hasEntry size e v ≡ true → haveEntries size e n f ≡ true
-  accepted-front u v n h x y = rw (zero-add n) at (accepted-each u v 0 n h refl x y)
+  pub accepted-front : (u v : Pixel) (n : ℕ) → EachOf u v f 0 (n - 0) → hasEntry size e u ≡ true → hasEntry size e v ≡ true → haveEntries size e n f ≡ true
+  accepted-front u v n h x y =
+      let z : n - 0 ≡ n = omega arith in
+      rw (zero-add n) at (accepted-each u v 0 n (rw z at h) refl x y)
 
   -- what is refused early stays so
   pub accepted-fewer : (m n : ℕ) → haveEntries size e m f ≡ false → m ≤ n → false ≡ haveEntries size e n f
@@ -265,7 +206,7 @@ module _ (size : ℕ) (e f : Picture) where
     where
       go : Dec (m ≡ suc n) → (m ≤ n → false ≡ haveEntries size e n f) → false ≡ haveEntries size e (suc n) f
       go (yes q) ih = sym (rw q at h)
-      go (no q) ih = and-false (hasEntry size e (f n)) (haveEntries size e n f) (ih (omega arith))
+      go (no q) ih = sym (and-false-right (hasEntry size e (f n)) (haveEntries size e n f) (sym (ih (omega arith))))
 
   pub accepted-done : (i m : ℕ) → haveEntries size e i f ≡ true → i ≡ m → true ≡ haveEntries size e m f
   accepted-done i m h q = sym (ap (λ (n : ℕ). haveEntries size e n f) (sym q) ∙ h)

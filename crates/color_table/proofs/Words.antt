@@ -9,6 +9,7 @@ use Rattle.format.specs.declared.Pixel.{Pixel}
 use Rattle.format.specs.Pixel.{equal}
 use Rattle.format.proofs.Pixels.{equal-true, equal-refl}
 use Rattle.pixel.specs.Word.{unword}
+use Rattle.color_table.specs.Hints.{slotOf}
 
 abbrev rejoin : Pixel → ℕ
 rejoin v = v .red + 256 * v .green + 65536 * v .blue + 16777216 * v .alpha
@@ -20,6 +21,10 @@ rejoined : (w : ℕ) → w < 4294967296 → rejoin (unword w) ≡ w
 unfolding unword
 rejoined w h =
     sum w (w / 256) (w / 65536) (w / 16777216) (w % 256) (w / 256 % 256) (w / 65536 % 256) (w / 16777216 % 256) (omega arith) (omega arith) (omega arith) (omega arith)
+
+pub slot-word : (w : ℕ) → w < 4294967296 → w * 2654435761 / 1048576 % 4096 ≡ slotOf (unword w)
+unfolding slotOf
+slot-word w h = rw (rejoined w h)
 
 pub equal-words : (a b : ℕ) → a < 4294967296 → b < 4294967296 → eqb a b ≡ equal (unword a) (unword b)
 equal-words a b h k = go (equal (unword a) (unword b)) refl

@@ -1,4 +1,4 @@
--- Hints by which indices are found, and the records that packing a row writes.
+-- The records that packing a row writes.
 use mathlib.Core.Bool.{Bool, true, _||_}
 use mathlib.Core.List.{List}
 use mathlib.Core.Path.{_≡_}
@@ -8,25 +8,13 @@ use lib.ListN.{length}
 use Rattle.format.specs.declared.Pixel.{Pixel}
 use Rattle.format.specs.Choice.{if_then_else_}
 use Rattle.format.specs.Pixel.{pixel, equal}
-use Rattle.format.specs.Picture.{Picture, byteAt, pixels}
+use Rattle.format.specs.Picture.{Picture, pixels}
 use Rattle.format.specs.ColorTable.{perPixel, range, indexOf, hasEntry, haveEntries, digits, packed}
 use Rattle.pixel.specs.Cells.{pixelCells, run, given}
 use Rattle.pixel.specs.Word.{unword}
+use Rattle.color_table.specs.Hints.{Table}
 use Rattle.color_table.specs.declared.each.Packing.{Packing}
 use Rattle.color_table.specs.declared.runs.Last.{Last}
-
--- every slot holds an index that is the lowest one of its entry
-pub record Hints (size : ℕ) (e : Picture) (hints : List ℕ) : Type 0 where
-  pub full : length hints ≡ 4096
-  pub below : (s : ℕ) → byteAt hints s < size
-  pub least : (s : ℕ) → indexOf size e (e (byteAt hints s)) ≡ byteAt hints s
-
--- a table with its hints
-pub record Table (size : ℕ) (entries hints : List ℕ) : Type 0 where
-  pub some : 1 ≤ size
-  pub most : size ≤ 256
-  pub there : 4 * size ≤ length entries
-  pub hinted : Hints size (pixels entries) hints
 
 -- a table of u entries or one fewer
 pub record Few (size u : ℕ) (entries : List ℕ) : Type 0 where

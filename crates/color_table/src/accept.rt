@@ -3,6 +3,8 @@
 use crate::find::find;
 use crate::find::first_holds;
 use crate::find::same;
+use crate::groups::eight_of;
+use crate::groups::pass;
 use pixel::word::word_at;
 ghost use mathlib.Core.Path.{_≡_};
 ghost use mathlib.Core.Bool.{true};
@@ -11,38 +13,7 @@ ghost use lib.ListN.{length};
 ghost use Rattle.format.specs.Picture.{pixels};
 ghost use Rattle.format.specs.ColorTable.{hasEntry, haveEntries};
 ghost use Rattle.pixel.specs.Word.{unword};
-ghost use Rattle.color_table.specs.Pack.{Hints, Table, EachOf};
-
-// Whether each of the eight pixels from i on is a or b: with no branch, so that they are compared at once. A group is
-// two of these, since a function of sixteen pixels is not inlined.
-pub fn eight_of(row: &[u8], i: usize, a: u32, b: u32) -> bool
-    requires { ⌜ 4 * (i + 8) ≤ length (now row) ⌝ }
-    ensures { λ r. ⌜ (r ≡ true → EachOf (unword a) (unword b) (pixels (now (row .entry))) i 8) ⌝ }
-{
-    let mut all = true;
-    let mut k = 0;
-    while k < 8 {
-        let w = word_at(row, i + k);
-        all = all & (same(w, a) | same(w, b));
-        k += 1;
-    }
-    all
-}
-
-// The first group with a pixel that is neither a nor b, or `count`.
-fn pass(row: &[u8], count: usize, a: u32, b: u32) -> usize
-    requires { ⌜ (count % 16 ≡ 0) × (4 * count ≤ length (now row)) ⌝ }
-    ensures { λ r. ⌜ (r % 16 ≡ 0) × (r ≤ count) × EachOf (unword a) (unword b) (pixels (now (row .entry))) 0 r ⌝ }
-{
-    let mut i = 0;
-    while i < count {
-        if !(eight_of(row, i, a, b) & eight_of(row, i + 8, a, b)) {
-            return i;
-        }
-        i += 16;
-    }
-    i
-}
+ghost use Rattle.color_table.specs.Hints.{Hints, Table};
 
 // Whether each of the first `to` pixels has an entry, where those before `from` have.
 fn accept_each(
@@ -93,7 +64,7 @@ fn accept_groups(row: &[u8], count: usize, entries: &[u8], size: usize, hints: &
     ensures { λ r. ⌜ r ≡ haveEntries size (pixels (now (entries .entry))) count (pixels (now (row .entry))) ⌝ }
 {
     let mut a = word_at(entries, 0);
-    let mut i = pass(row, count, a, word_at(entries, size - 1));
+    let mut i = pass(row, 0, count, a, word_at(entries, size - 1));
     while i < count {
         if !accept_group(row, i, a, entries, size, hints) {
             return false;

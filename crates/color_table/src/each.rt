@@ -10,7 +10,8 @@ ghost use Rattle.format.specs.Pixel.{pixel};
 ghost use Rattle.format.specs.Picture.{pixels};
 ghost use Rattle.format.specs.ColorTable.{packedWidth};
 ghost use Rattle.pixel.specs.Word.{unword};
-ghost use Rattle.color_table.specs.Pack.{Table, Row, Packs, Records, RecordsBy, RecordFrom, rowIndices};
+ghost use Rattle.color_table.specs.Hints.{Table};
+ghost use Rattle.color_table.specs.Pack.{Row, Packs, Records, RecordsBy, RecordFrom, rowIndices};
 
 // How a row of `width` pixels is packed by a table of `size` entries: n indices to a record, each below `range`.
 pub struct Packing {

@@ -4,6 +4,7 @@ mod each;
 pub mod find;
 mod flat;
 mod four;
+pub mod groups;
 pub mod pack;
 mod runs;
 pub mod table;

@@ -12,7 +12,8 @@ ghost use Prim.Native.Nat.{_*_, _≤_};
 ghost use lib.ListN.{length};
 ghost use Rattle.format.specs.Picture.{pixels, written};
 ghost use Rattle.format.specs.ColorTable.{packedWidth, haveEntries, packed as packedOf};
-ghost use Rattle.color_table.specs.Pack.{Hints, Packs, RecordsBy};
+ghost use Rattle.color_table.specs.Hints.{Hints};
+ghost use Rattle.color_table.specs.Pack.{Packs, RecordsBy};
 
 // The front of a row, by comparing, and how many records it is.
 fn pack_front(row: &[u8], out: &mut [u8], entries: &[u8], hints: &[u8], p: Packing) -> usize

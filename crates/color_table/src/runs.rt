@@ -1,12 +1,12 @@
 // Storing by runs: sixteen pixels at a time are compared with the one before them, and packed one by one only where
 // they differ.
-use crate::accept::eight_of;
 use crate::each::Packing;
 use crate::each::pack_doubles;
 use crate::each::pack_each;
 use crate::each::record_of;
 use crate::find::find;
 use crate::flat::put_pairs;
+use crate::groups::eight_of;
 use pixel::word::put_word;
 use pixel::word::word_at;
 ghost use mathlib.Core.Path.{_≡_};

@@ -26,6 +26,13 @@ pub and-both : (a b : Bool) → a ≡ true → b ≡ true → (a && b) ≡ true
 and-both true b p q = q
 and-both false b p q = p
 
+pub and-false-left : (a b : Bool) → a ≡ false → (a && b) ≡ false
+and-false-left a b e = rw e refl
+
+pub and-false-right : (a b : Bool) → b ≡ false → (a && b) ≡ false
+and-false-right true b e = e
+and-false-right false b e = refl
+
 lower : {q n : ℕ} → q < suc n → (q ≡ n → ⊥) → q < n
 lower h ne = omega arith
 
@@ -41,6 +48,10 @@ every-at (suc n) t q h e = go (ℕ-discrete q n) (every-at n t q)
 pub every-all : (n : ℕ) (t : ℕ → Bool) → ((q : ℕ) → q < n → t q ≡ true) → every n t ≡ true
 every-all zero t h = refl
 every-all (suc n) t h = and-both (t n) (every n t) (h n (omega arith)) (every-all n t (λ q l. h q (omega arith)))
+
+pub every-same : (n : ℕ) (s t : ℕ → Bool) → ((q : ℕ) → q < n → s q ≡ t q) → every n s ≡ every n t
+every-same zero s t h = refl
+every-same (suc n) s t h = cc (h n (omega arith), every-same n s t (λ q l. h q (omega arith)))
 
 -- where not every number passes, one does not
 pub not-every : (n : ℕ) (t : ℕ → Bool) → every n t ≡ false → (q : ℕ) × (q < n) × (t q ≡ false)

@@ -6,7 +6,7 @@ use Prim.Native.Nat.{ℕ, zero, suc, _+_, _-_, _%_, _<_, _≤_}
 use native.Mathlib.Decide.{decLt}
 use native.Mathlib.Nat.{le-refl}
 use native.Mathlib.Omega.{arith}
-use borrow.Author.Tests.{lt-ltb, le-ltb, eqb-true, eqb-false}
+use borrow.Author.Tests.{lt-ltb, le-ltb, ltb-false, eqb-true, eqb-false}
 use lib.ListN.{length}
 use lib.Seq.{ext-getD}
 use lib.Dec.{eqb, ltb}
@@ -121,15 +121,15 @@ module _ (xs : List ℕ) (small : (i : ℕ) → byteAt xs i < 256) where
   unfolding unadjustColorMap adjustColorMap
   adjust-unadjust = undone-call adjusted unadjusted xs adjusted-local (adjusted-unadjusted (byteAt xs) small) (refused (length xs)) refl
 
--- a map that is not refused has an entry
-pub taken-some : (n : ℕ) → refused n ≡ false → 4 ≤ n
-taken-some n r = go (eqb n 0) (ltb 1024 n) (eqb (n % 4) 0) r (eqb-false n 0) (eqb-true (n % 4) 0)
+-- a map that is not refused has 1 to 256 entries
+pub taken-long : (n : ℕ) → refused n ≡ false → (4 ≤ n) × (n ≤ 1024)
+taken-long n r = go (eqb n 0) (ltb 1024 n) (eqb (n % 4) 0) r (eqb-false n 0) (ltb-false 1024 n) (eqb-true (n % 4) 0)
   where
-    go : (a b d : Bool) → (a || (b || not d)) ≡ false → (a ≡ false → n ≡ 0 → ⊥) → (d ≡ true → n % 4 ≡ 0) → 4 ≤ n
-    go false false true e x y =
+    go : (a b d : Bool) → (a || (b || not d)) ≡ false → (a ≡ false → n ≡ 0 → ⊥) → (b ≡ false → n ≤ 1024) → (d ≡ true → n % 4 ≡ 0) → (4 ≤ n) × (n ≤ 1024)
+    go false false true e x w y =
         let m = x refl in
         let z = y refl in
-        omega arith
-    go false false false e x y = absurd-bool e
-    go false true d e x y = absurd-bool e
-    go true b d e x y = absurd-bool e
+        (omega arith, w refl)
+    go false false false e x w y = absurd-bool e
+    go false true d e x w y = absurd-bool e
+    go true b d e x w y = absurd-bool e

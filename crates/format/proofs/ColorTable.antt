@@ -5,6 +5,7 @@ use mathlib.Core.Path.{_≡_, refl, sym, ap, _∙_}
 use Prim.Native.Nat.{ℕ, zero, suc, _+_, _*_, _/_, _%_, _^_, _<_, _≤_}
 use native.Mathlib.Nat.{not-suc-le-zero, le-of-suc-le-suc, zero-add, pow-zero, pow-succ', div-one, mod-eq-of-lt, div-eq-of-lt, add-mul-mod-self-left, add-mul-div-left, div-div-eq-div-mul, mod-lt, div-add-mod', div-lt-iff-lt-mul, le-div-iff-mul-le, suc-mul, div-mul-le-self, one-mul, lt-of-lt-of-le}
 use lib.Pow.{pow-add}
+use native.Mathlib.Decide.{decLt}
 use native.Mathlib.Omega.{arith}
 use borrow.Author.Tests.{ltb-true, leb-true, lt-ltb}
 use lib.Arith.{digits-lt, digits-div, digits-mod}
@@ -48,6 +49,41 @@ lowest-least e v (suc k) i j a q l = go (equal (e i) v) refl (lowest-least e v k
     go : (b : Bool) → equal (e i) v ≡ b → (suc i ≤ j → e j ≡ v → j < suc i + k → lowest e v k (suc i) ≤ j) → (if b then i else lowest e v k (suc i)) ≤ j
     go true r ih = a
     go false r ih = let n = other r in ih (omega arith) q (omega arith)
+
+pub lowest-most : (e : Picture) (v : Pixel) (k i : ℕ) → lowest e v k i ≤ i + k
+unfolding lowest
+lowest-most e v zero i = omega arith
+lowest-most e v (suc k) i = go (equal (e i) v) (lowest-most e v k (suc i))
+  where
+    go : (b : Bool) → lowest e v k (suc i) ≤ suc i + k → (if b then i else lowest e v k (suc i)) ≤ i + suc k
+    go true h = omega arith
+    go false h = omega arith
+
+-- the same among all entries
+module _ (size : ℕ) (e : Picture) (v : Pixel) where
+  pub index-most : indexOf size e v ≤ size
+  index-most = rw (zero-add size) at (lowest-most e v size 0)
+
+  pub index-hit : indexOf size e v < size → e (indexOf size e v) ≡ v
+  index-hit l = lowest-hit e v size 0 (rw (zero-add size) l)
+
+  pub index-least : (k : ℕ) → k < size → e k ≡ v → indexOf size e v ≤ k
+  index-least k l q = lowest-least e v size 0 k (omega arith) q (rw (zero-add size) l)
+
+  -- where entry k is v and none before it is
+  pub index-is : (k : ℕ) → k < size → e k ≡ v → ((j : ℕ) → j < size → e j ≡ v → k ≤ j) → k ≡ indexOf size e v
+  index-is k l q first =
+      let a = index-least k l q in
+      let b = first (indexOf size e v) (omega arith) (index-hit (omega arith)) in
+      omega arith
+
+  -- where no entry is v
+  pub index-none : ((j : ℕ) → j < size → e j ≡ v → ⊥) → size ≡ indexOf size e v
+  index-none none = go (decLt (indexOf size e v) size) index-most
+    where
+      go : Dec (indexOf size e v < size) → indexOf size e v ≤ size → size ≡ indexOf size e v
+      go (yes l) m = absurd (none (indexOf size e v) l (index-hit l))
+      go (no l) m = omega arith
 
 -- an index by shifts is a digit to the base `range n`
 

@@ -3,11 +3,13 @@ use mathlib.Core.Bool.{Bool, true, false, false≢true}
 use mathlib.Core.List.{List, [], _∷_, List·Memᴰ, List·Memᴰ·head, List·Memᴰ·tail, List·Memᴰ·not-nil, List·Memᴰ·cases-cons, Memᴰ·append-left, Memᴰ·append-right, Memᴰ·cast}
 use mathlib.Core.Logic.{_⊎_, inl, inr, ⊎-elim}
 use mathlib.Core.Path.{_≡_, refl, sym, subst}
-use Prim.Native.Nat.{ℕ, zero, suc, _<_}
+use Prim.Native.Nat.{ℕ, zero, suc, _+_, _*_, _<_, _≤_}
+use native.Mathlib.Nat.{add-zero, add-suc, suc-mul}
 use native.Mathlib.Omega.{arith}
 use borrow.Author.Tests.{eqb-true, eq-eqb}
 use lib.Dec.{eqb}
 use lib.ListN.{getD}
+use Rattle.format.specs.Choice.{bit}
 use Rattle.format.specs.Indices.{some, among, union, howMany}
 use Rattle.format.proofs.Choice.{decide, or-left, or-right, or-cases}
 
@@ -85,3 +87,17 @@ howMany-same (suc m) s t h = cc (h m (omega arith), howMany-same m s t (λ q l. 
 pub howMany-none : (m : ℕ) (t : ℕ → Bool) → ((q : ℕ) → q < m → t q ≡ false) → howMany m t ≡ 0
 howMany-none zero t h = refl
 howMany-none (suc m) t h = rw (h m (omega arith), howMany-none m t (λ q l. h q (omega arith)))
+
+pub howMany-most : (m : ℕ) (t : ℕ → Bool) → howMany m t ≤ m
+howMany-most zero t = omega arith
+howMany-most (suc m) t = go (t m) (howMany-most m t)
+  where
+    go : (b : Bool) → howMany m t ≤ m → bit b + howMany m t ≤ suc m
+    go true h = omega arith
+    go false h = omega arith
+
+-- n more, which pass or fail alike
+pub howMany-alike : (m n : ℕ) (t : ℕ → Bool) (b : Bool) → ((q : ℕ) → m ≤ q → q < m + n → t q ≡ b) → howMany (m + n) t ≡ howMany m t + n * bit b
+howMany-alike m zero t b h = rw (add-zero m) (omega arith)
+howMany-alike m (suc n) t b h =
+    rw (add-suc m n, h (m + n) (omega arith) (omega arith), howMany-alike m n t b (λ q k l. h q k (omega arith)), suc-mul n (bit b)) (omega arith)

@@ -1,11 +1,11 @@
 -- Laws of the bytes at a buffer's front, and of items replaced in order.
-use mathlib.Core.List.{List}
+use mathlib.Core.List.{List, [], _∷_}
 use mathlib.Core.Path.{_≡_, refl, ap, _∙_}
 use Prim.Native.Nat.{ℕ, zero, suc, _+_, _-_, _<_, _≤_}
 use native.Mathlib.Nat.{not-suc-le-zero, le-of-suc-le-suc, zero-add}
 use native.Mathlib.Omega.{arith}
 use borrow.Author.Tests.{eq-eqb, ne-eqb}
-use lib.ListN.{length, drop, length-drop}
+use lib.ListN.{length, drop, set, length-drop}
 use lib.Seq.{drop-drop}
 use Rattle.format.specs.Picture.{Picture, byteAt, written, writtenBytes, paint, inOrder}
 
@@ -64,6 +64,20 @@ drop-writtenBytes zero f xs = refl
 drop-writtenBytes (suc n) f xs =
     let s : 1 + n ≡ suc n = omega arith in
     drop-writtenBytes n (λ i. f (suc i)) (drop 1 xs) ∙ drop-drop n 1 xs ∙ ap (λ (k : ℕ). drop k xs) s
+
+pub writtenBytes-same : (n : ℕ) (f g : ℕ → ℕ) (xs : List ℕ) → ((i : ℕ) → i < n → f i ≡ g i) → writtenBytes n f xs ≡ writtenBytes n g xs
+unfolding writtenBytes
+writtenBytes-same zero f g xs h = refl
+writtenBytes-same (suc n) f g xs h =
+    cc (h 0 (omega arith), writtenBytes-same n (λ i. f (suc i)) (λ i. g (suc i)) (drop 1 xs) (λ i l. h (suc i) (omega arith)))
+
+-- one byte more
+pub writtenBytes-more : (n : ℕ) (f : ℕ → ℕ) (xs : List ℕ) → n < length xs → set (writtenBytes n f xs) n (f n) ≡ writtenBytes (suc n) f xs
+unfolding writtenBytes
+writtenBytes-more zero f [] l = absurd (not-suc-le-zero l)
+writtenBytes-more zero f (x ∷ xs) l = refl
+writtenBytes-more (suc n) f xs l =
+    ap (λ (ys : List ℕ). f 0 ∷ ys) (writtenBytes-more n (λ i. f (suc i)) (drop 1 xs) (rw (length-drop 1 xs) (omega arith)))
 
 -- pixel by pixel
 

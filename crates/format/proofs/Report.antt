@@ -14,49 +14,29 @@ use Rattle.format.specs.Indices.{howMany}
 use Rattle.format.specs.declared.Pixel.{Pixel}
 use Rattle.format.specs.Pixel.{equal}
 use Rattle.format.specs.Picture.{Picture, byteAt}
-use Rattle.format.specs.ColorTable.{lowest, indexOf}
+use Rattle.format.specs.ColorTable.{indexOf}
 use Rattle.format.specs.Report.{pixelsOf, pixelsOfNone, added, distinct, counter, counterByte, writtenCounters, sum}
 use Rattle.format.proofs.Choice.{every-at, every-all, not-every}
 use Rattle.format.proofs.Indices.{howMany-same}
-use Rattle.format.proofs.Picture.{length-writtenBytes, byteAt-writtenBytes, drop-writtenBytes}
+use Rattle.format.proofs.Picture.{length-writtenBytes, byteAt-writtenBytes, drop-writtenBytes, writtenBytes-same}
 use Rattle.format.proofs.Pixels.{equal-true, equal-refl}
-use Rattle.format.proofs.ColorTable.{lowest-hit, lowest-least}
-
--- the lowest index of a color, among m
-
-pub lowest-most : (e : Picture) (v : Pixel) (k i : ℕ) → lowest e v k i ≤ i + k
-unfolding lowest
-lowest-most e v zero i = omega arith
-lowest-most e v (suc k) i = go (equal (e i) v) (lowest-most e v k (suc i))
-  where
-    go : (b : Bool) → lowest e v k (suc i) ≤ suc i + k → (if b then i else lowest e v k (suc i)) ≤ i + suc k
-    go true h = omega arith
-    go false h = omega arith
+use Rattle.format.proofs.ColorTable.{index-most, index-hit, index-least}
 
 unequal : (u v : Pixel) → not (equal u v) ≡ true → u ≡ v → ⊥
 unequal u v n q = true≢false (sym (rw q (equal-refl v)) ∙ not-true (equal u v) n)
 
 module _ (m : ℕ) (e : Picture) where
-  pub index-most : (v : Pixel) → indexOf m e v ≤ m
-  index-most v = rw (zero-add m) at (lowest-most e v m 0)
-
-  index-hit : (v : Pixel) → indexOf m e v < m → e (indexOf m e v) ≡ v
-  index-hit v l = lowest-hit e v m 0 (rw (zero-add m) l)
-
-  index-least : (v : Pixel) (k : ℕ) → k < m → e k ≡ v → indexOf m e v ≤ k
-  index-least v k l q = lowest-least e v m 0 k (omega arith) q (rw (zero-add m) l)
-
   -- where no color is listed twice, the one at k is found at k
   pub index-own : distinct m e ≡ true → (k : ℕ) → k < m → indexOf m e (e k) ≡ k
   unfolding distinct
-  index-own d k l = go (ℕ-discrete (indexOf m e (e k)) k) (index-least (e k) k l refl)
+  index-own d k l = go (ℕ-discrete (indexOf m e (e k)) k) (index-least m e (e k) k l refl)
     where
       before : indexOf m e (e k) < k → not (equal (e (indexOf m e (e k))) (e k)) ≡ true
       before s = every-at k (λ j. not (equal (e j) (e k))) (indexOf m e (e k)) s (every-at m (λ i. every i (λ j. not (equal (e j) (e i)))) k l d)
 
       go : Dec (indexOf m e (e k) ≡ k) → indexOf m e (e k) ≤ k → indexOf m e (e k) ≡ k
       go (yes q) h = q
-      go (no q) h = absurd (unequal (e (indexOf m e (e k))) (e k) (before (omega arith)) (index-hit (e k) (omega arith)))
+      go (no q) h = absurd (unequal (e (indexOf m e (e k))) (e k) (before (omega arith)) (index-hit m e (e k) (omega arith)))
 
   -- and only then
   pub own-distinct : ((k : ℕ) → k < m → indexOf m e (e k) ≡ k) → distinct m e ≡ true
@@ -66,7 +46,7 @@ module _ (m : ℕ) (e : Picture) where
       apart : (k : ℕ) → k < m → (j : ℕ) → j < k → (b : Bool) → equal (e j) (e k) ≡ b → not b ≡ true
       apart k l j b false q = refl
       apart k l j b true q =
-          let a = index-least (e k) j (omega arith) (equal-true (e j) (e k) q) in
+          let a = index-least m e (e k) j (omega arith) (equal-true (e j) (e k) q) in
           let o = h k l in
           absurd (omega arith)
 
@@ -79,20 +59,20 @@ module _ (m : ℕ) (e : Picture) where
         go true q c = sym (eq-eqb (indexOf m e v) k (ap (indexOf m e) (equal-true v (e k) q) ∙ index-own d k l))
         go false q (no n) = sym (ne-eqb (indexOf m e v) k n)
         go false q (yes p) =
-            let u : e k ≡ v = rw p at (index-hit v (rw p l)) in
+            let u : e k ≡ v = rw p at (index-hit m e v (rw p l)) in
             absurd (true≢false (sym (rw u (equal-refl v)) ∙ q))
 
     of-none : every m (λ k. not (equal v (e k))) ≡ eqb (indexOf m e v) m
-    of-none = go (every m (λ k. not (equal v (e k)))) refl (ℕ-discrete (indexOf m e v) m) (index-most v)
+    of-none = go (every m (λ k. not (equal v (e k)))) refl (ℕ-discrete (indexOf m e v) m) (index-most m e v)
       where
         go : (b : Bool) → every m (λ k. not (equal v (e k))) ≡ b → Dec (indexOf m e v ≡ m) → indexOf m e v ≤ m → b ≡ eqb (indexOf m e v) m
         go true q (yes p) l = sym (eq-eqb (indexOf m e v) m p)
         go true q (no n) l =
             let s : indexOf m e v < m = omega arith in
-            absurd (unequal v (e (indexOf m e v)) (every-at m (λ k. not (equal v (e k))) (indexOf m e v) s q) (sym (index-hit v s)))
+            absurd (unequal v (e (indexOf m e v)) (every-at m (λ k. not (equal v (e k))) (indexOf m e v) s q) (sym (index-hit m e v s)))
         go false q c l =
             let s = not-every m (λ k. not (equal v (e k))) q in
-            let a = index-least v (s .0) (s .1) (sym (equal-true v (e (s .0)) (not-false (equal v (e (s .0))) (s .2)))) in
+            let a = index-least m e v (s .0) (s .1) (sym (equal-true v (e (s .0)) (not-false (equal v (e (s .0))) (s .2)))) in
             let b = s .1 in
             sym (ne-eqb (indexOf m e v) m (λ p. omega arith))
 
@@ -193,3 +173,9 @@ module _ (n : ℕ) (g : ℕ → ℕ) (xs : List ℕ) where
   pub length-counters : 8 * n ≤ length xs → length (writtenCounters n g xs) ≡ length xs
   unfolding writtenCounters
   length-counters l = length-writtenBytes (8 * n) (counterByte g) xs l
+
+-- counters depend on their numbers alone
+pub counters-same : (n : ℕ) (g h : ℕ → ℕ) (xs : List ℕ) → ((k : ℕ) → k < n → g k ≡ h k) → writtenCounters n g xs ≡ writtenCounters n h xs
+unfolding writtenCounters
+counters-same n g h xs e =
+    writtenBytes-same (8 * n) (counterByte g) (counterByte h) xs (λ i l. ap (λ (x : ℕ). x / 256 ^ (i % 8) % 256) (e (i / 8) (omega arith)))

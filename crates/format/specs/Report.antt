@@ -3,13 +3,14 @@
 use mathlib.Core.Bool.{Bool, not, _&&_}
 use mathlib.Core.List.{List}
 use Prim.Native.Nat.{ℕ, zero, suc, _+_, _*_, _/_, _%_, _^_}
-use lib.Dec.{eqb, leb, ltb}
+use lib.Dec.{leb, ltb}
 use lib.ListN.{length}
 use Rattle.format.specs.Choice.{if_then_else_, every}
 use Rattle.format.specs.Indices.{howMany}
 use Rattle.format.specs.declared.Pixel.{Pixel}
 use Rattle.format.specs.Pixel.{equal}
 use Rattle.format.specs.Picture.{Picture, pixels, writtenBytes}
+use Rattle.format.specs.ColorMap.{refused}
 use Rattle.format.specs.Chain.{le32}
 use Rattle.format.specs.Refusals.{sizeRefusal, accepted, _before_, _unless_}
 use Rattle.format.specs.Calls.{holds}
@@ -50,10 +51,11 @@ counterCount colors = colorCount colors + 1
 unfoldable pub distinct : ℕ → Picture → Bool
 distinct m e = every m (λ k. every k (λ j. not (equal (e j) (e k))))
 
--- a list of 4 to 1024 bytes in fours, with no color listed twice
+-- 4 to 1024 bytes in fours, which is what refusal 10 admits of a color map
 abbrev pub inFours : List ℕ → Bool
-inFours colors = (leb 4 (length colors) && leb (length colors) 1024) && eqb (length colors % 4) 0
+inFours colors = not (refused (length colors))
 
+-- such a list, with no color listed twice
 unfoldable pub colorList : List ℕ → Bool
 colorList colors = inFours colors && distinct (colorCount colors) (pixels colors)
 

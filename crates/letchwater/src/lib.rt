@@ -5,6 +5,7 @@ use color_map::unadjust_color_map;
 use format::Pixel;
 use item::place::Place;
 use rebuild::rebuild;
+use report::report::report;
 use retouch::retouch::retouch;
 use store::store::store;
 ghost use mathlib.Core.Path.{_≡_};
@@ -12,6 +13,7 @@ ghost use Rattle.format.specs.Pixel.{pixel};
 ghost use Rattle.format.specs.Calls.{rebuildAnswer, rebuildImage, storeAnswer, storeStrip};
 ghost use Rattle.format.specs.Calls.{retouchAnswer, retouchPicture, retouchStrip};
 ghost use Rattle.format.specs.ColorMap.{colorMapAnswer, adjustColorMap, unadjustColorMap};
+ghost use Rattle.format.specs.Report.{reportAnswer, reportCounters};
 
 // Rebuilds a picture in the buffer whose front holds its strip.
 #[no_mangle]
@@ -90,6 +92,23 @@ pub extern "C" fn letchwater_retouch(
         at,
         color,
     )
+}
+
+// Adds a picture's pixels to the counters, by color: one counter for each color, then one for all others.
+#[no_mangle]
+pub extern "C" fn letchwater_report(
+    width: u32,
+    height: u32,
+    picture: &[u8],
+    colors: &[u8],
+    counters: &mut [u8],
+) -> u32
+    ensures { λ r. ⌜ r ≡ reportAnswer width height (now (picture .entry)) (now (colors .entry))
+        (now (counters .entry)) ⌝ }
+    ensures { λ r. ⌜ now (counters .exit) ≡ reportCounters width height (now (picture .entry)) (now (colors .entry))
+        (now (counters .entry)) ⌝ }
+{
+    report(width as usize, height as usize, picture, colors, counters)
 }
 
 // Turns a color map as the file has it into finished entries.

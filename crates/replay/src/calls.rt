@@ -1,17 +1,14 @@
 // An exported call on a chain: the number, and every byte of the buffer that it writes.
 use crate::case::Call;
-use crate::transforms::Outcome;
+use crate::outcome::Outcome;
+use crate::outcome::not_undone;
 use letchwater::letchwater_rebuild;
 use letchwater::letchwater_store;
 
 // Nothing is undone here: storing has its own cases.
 fn compared(c: Call, answer: u32, buffer: &[u8], output: &[u8]) -> Outcome {
     let same = check::same(buffer, output);
-    Outcome::Compared {
-        same: answer == c.answer && same,
-        back: true,
-        refused: answer != 0,
-    }
+    not_undone(answer == c.answer && same, answer != 0)
 }
 
 pub fn replay_rebuild(

@@ -23,6 +23,13 @@ pub struct Call {
     pub input_len: usize,
 }
 
+// A list of reports.
+pub struct Reports {
+    pub calls: u32,
+    pub colors_len: usize,
+    pub counters_len: usize,
+}
+
 fn wide(x: u8) -> u32
     ensures { λ r. ⌜ r < 256 ⌝ }
 {
@@ -48,7 +55,7 @@ pub fn four_bytes(header: &[u8; 16], at: usize) -> u32
     two_bytes(header, at) + 65536 * two_bytes(header, at + 2)
 }
 
-fn length_in_four(header: &[u8; 16], at: usize) -> usize
+pub fn length_in_four(header: &[u8; 16], at: usize) -> usize
     requires { ⌜ at + 3 < 16 ⌝ }
 {
     four_bytes(header, at) as usize
@@ -98,5 +105,13 @@ pub fn call_of(header: &[u8; 16]) -> Call {
         data_len: length_in_two(header, 8),
         output_len: length_in_two(header, 10),
         input_len: length_in_four(header, 12),
+    }
+}
+
+pub fn reports_of(header: &[u8; 16]) -> Reports {
+    Reports {
+        calls: wide(header[1]),
+        colors_len: length_in_two(header, 2),
+        counters_len: length_in_two(header, 4),
     }
 }

@@ -2,15 +2,19 @@
 use crate::calls::replay_rebuild;
 use crate::calls::replay_store;
 use crate::case::Call;
+use crate::case::Reports;
 use crate::case::Single;
 use crate::case::call_of;
 use crate::case::record_of;
+use crate::case::reports_of;
 use crate::case::single_of;
+use crate::outcome::Outcome;
+use crate::outcome::both;
+use crate::parts::compare_part;
 use crate::parts::lacks_part;
-use crate::retouches::Answers;
+use crate::reports::replay_reports;
 use crate::retouches::replay_retouches;
 use crate::sizes::picture_len;
-use crate::transforms::Outcome;
 use crate::transforms::replay_color_map;
 use crate::transforms::replay_color_table;
 use crate::transforms::replay_pixels;
@@ -164,29 +168,7 @@ fn replay_call(header: &[u8; 16]) -> Outcome {
     replay_filled_call(c, &chain, &data, &mut input, &output)
 }
 
-// Both buffers after the list's calls, picture first.
-fn compare_both(picture: &[u8], strip: &[u8], same: bool, refused: bool) -> Outcome
-    requires { ⌜ (length (now picture) ≤ 16384) × (length (now strip) ≤ 16384) ⌝ }
-{
-    let mut after = [0u8; 16384];
-    let n = picture.len();
-    if lacks_part(&mut after, n) {
-        return Outcome::Malformed;
-    }
-    let same_picture = check::same(picture, &after[0..n]);
-    let m = strip.len();
-    if lacks_part(&mut after, m) {
-        return Outcome::Malformed;
-    }
-    let same_strip = check::same(strip, &after[0..m]);
-    Outcome::Compared {
-        same: same && same_picture && same_strip,
-        back: true,
-        refused,
-    }
-}
-
-fn replay_filled_list(
+fn replay_filled_retouches(
     c: Call,
     chain: &[u8],
     data: &[u8],
@@ -208,15 +190,13 @@ fn replay_filled_list(
         &mut picture[0..n],
         &mut strip[0..m],
     );
-    let Answers::Compared { same, refused } = answers else {
-        return Outcome::Malformed;
-    };
-    compare_both(&picture[0..n], &strip[0..m], same, refused)
+    let with_picture = both(answers, compare_part(&picture[0..n]));
+    both(with_picture, compare_part(&strip[0..m]))
 }
 
 // Reads what follows the header of a list of retouches. The header has the picture's length where other calls have the
 // input's, the strip's where they have the output's.
-fn replay_list(header: &[u8; 16]) -> Outcome {
+fn replay_retouch_list(header: &[u8; 16]) -> Outcome {
     let c = call_of(header);
     let mut chain = [0u8; 16384];
     let mut data = [0u8; 16384];
@@ -234,7 +214,31 @@ fn replay_list(header: &[u8; 16]) -> Outcome {
     if lacks_part(&mut strip, c.output_len) {
         return Outcome::Malformed;
     }
-    replay_filled_list(c, &chain, &data, &mut picture, &mut strip)
+    replay_filled_retouches(c, &chain, &data, &mut picture, &mut strip)
+}
+
+fn replay_filled_reports(c: Reports, colors: &[u8], counters: &mut [u8]) -> Outcome
+    requires { ⌜ (c .«colors_len» ≤ length (now colors)) × (c .«counters_len» ≤ length (now counters))
+        × (c .«counters_len» ≤ 16384) ⌝ }
+{
+    let colors_len = c.colors_len;
+    let n = c.counters_len;
+    let answers = replay_reports(c.calls, &colors[0..colors_len], &mut counters[0..n]);
+    both(answers, compare_part(&counters[0..n]))
+}
+
+// Reads what follows the header of a list of reports.
+fn replay_report_list(header: &[u8; 16]) -> Outcome {
+    let c = reports_of(header);
+    let mut colors = [0u8; 16384];
+    let mut counters = [0u8; 16384];
+    if lacks_part(&mut colors, c.colors_len) {
+        return Outcome::Malformed;
+    }
+    if lacks_part(&mut counters, c.counters_len) {
+        return Outcome::Malformed;
+    }
+    replay_filled_reports(c, &colors, &mut counters)
 }
 
 fn replay_header(header: &[u8; 16]) -> Outcome {
@@ -245,7 +249,10 @@ fn replay_header(header: &[u8; 16]) -> Outcome {
         return replay_call(header);
     }
     if header[0] == 7 {
-        return replay_list(header);
+        return replay_retouch_list(header);
+    }
+    if header[0] == 8 {
+        return replay_report_list(header);
     }
     Outcome::Malformed
 }

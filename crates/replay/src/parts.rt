@@ -1,4 +1,6 @@
 // Parts of a case, read from the list.
+use crate::outcome::Outcome;
+use crate::outcome::not_undone;
 use libc::STDIN_FILENO;
 ghost use mathlib.Core.Path.{_≡_};
 ghost use mathlib.Core.Bool.{false};
@@ -13,4 +15,16 @@ pub fn lacks_part(buffer: &mut [u8], n: usize) -> bool
         return true;
     }
     io::read_full(STDIN_FILENO, &mut buffer[0..n]) != n
+}
+
+// Every byte of the buffer beside the part that follows in the list.
+pub fn compare_part(buffer: &[u8]) -> Outcome
+    requires { ⌜ length (now buffer) ≤ 16384 ⌝ }
+{
+    let mut after = [0u8; 16384];
+    let n = buffer.len();
+    if lacks_part(&mut after, n) {
+        return Outcome::Malformed;
+    }
+    not_undone(check::same(buffer, &after[0..n]), false)
 }

@@ -1,13 +1,11 @@
 // A list of retouches, each on what the last one left: every answer.
 use crate::case::Call;
 use crate::case::four_bytes;
+use crate::outcome::Outcome;
+use crate::outcome::both;
+use crate::outcome::not_undone;
 use crate::parts::lacks_part;
 use letchwater::letchwater_retouch;
-
-pub enum Answers {
-    Compared { same: bool, refused: bool },
-    Malformed,
-}
 
 // One call, which follows in the list in 16 bytes: column, row, color, answer.
 fn replay_retouch(
@@ -16,10 +14,10 @@ fn replay_retouch(
     data: &[u8],
     picture: &mut [u8],
     strip: &mut [u8],
-) -> Answers {
+) -> Outcome {
     let mut call = [0u8; 16];
     if lacks_part(&mut call, 16) {
-        return Answers::Malformed;
+        return Outcome::Malformed;
     }
     let answer = letchwater_retouch(
         c.width,
@@ -35,10 +33,7 @@ fn replay_retouch(
         call[10],
         call[11],
     );
-    Answers::Compared {
-        same: answer == four_bytes(&call, 12),
-        refused: answer < 256,
-    }
+    not_undone(answer == four_bytes(&call, 12), answer < 256)
 }
 
 // The header has how many calls there are where other calls have their answer.
@@ -48,21 +43,12 @@ pub fn replay_retouches(
     data: &[u8],
     picture: &mut [u8],
     strip: &mut [u8],
-) -> Answers {
-    let mut all = true;
-    let mut some = false;
+) -> Outcome {
+    let mut outcome = not_undone(true, false);
     let mut i = 0;
     while i < c.answer {
-        let next = replay_retouch(c, chain, data, picture, strip);
-        let Answers::Compared { same, refused } = next else {
-            return Answers::Malformed;
-        };
-        all = all & same;
-        some = some | refused;
+        outcome = both(outcome, replay_retouch(c, chain, data, picture, strip));
         i += 1;
     }
-    Answers::Compared {
-        same: all,
-        refused: some,
-    }
+    outcome
 }

@@ -2,6 +2,7 @@
 // back. `image` and `strip` have the output's length.
 use crate::case::Single;
 use crate::entries::every_pixel_has_entry;
+use crate::outcome::Outcome;
 use crate::sizes::packed_len;
 use letchwater::letchwater_adjust_color_map;
 use letchwater::letchwater_rebuild;
@@ -9,16 +10,6 @@ use letchwater::letchwater_store;
 use letchwater::letchwater_unadjust_color_map;
 ghost use Prim.Native.Nat.{_*_, _≤_};
 ghost use lib.ListN.{length};
-
-// Whether the call gave what the oracle gave, whether undoing it gives what it had, and whether storing refused.
-pub enum Outcome {
-    Compared {
-        same: bool,
-        back: bool,
-        refused: bool,
-    },
-    Malformed,
-}
 
 fn rebuilt(
     c: Single,

@@ -10,7 +10,7 @@ use Rattle.format.specs.ColorTable.{haveEntries}
 use Rattle.format.specs.Stages.{partOf, takes, stored}
 use Rattle.format.proofs.ByKind.{takes-table}
 use Rattle.pixel.specs.Held.{HoldsRow}
-use Rattle.color_table.specs.Pack.{Hints}
+use Rattle.color_table.specs.Hints.{Hints}
 use Rattle.chain.specs.declared.Chain.{Chain}
 use Rattle.chain.specs.Valid.{Valid, stepsOf, storedBy, acceptsBy}
 use Rattle.store.specs.Stage.{TableAt, HintsFor, RowOf, Accepts}

@@ -12,7 +12,7 @@ use Rattle.format.specs.Chain.{narrowed}
 use Rattle.format.specs.Refusals.{_unless_}
 use Rattle.format.specs.Stages.{partOf, forward}
 use Rattle.pixel.specs.Held.{HoldsRow}
-use Rattle.color_table.specs.Pack.{Hints}
+use Rattle.color_table.specs.Hints.{Hints}
 use Rattle.chain.specs.declared.Chain.{Chain}
 use Rattle.chain.specs.Valid.{Valid, stepsOf, widthAfter, storedBy, acceptsBy, recordsIn, HoldsPicture}
 use Rattle.store.specs.Scratch.{SameFirst}

@@ -13,7 +13,7 @@ ghost use Rattle.format.specs.Picture.{pixels};
 ghost use Rattle.format.specs.Sizes.{Sized, Holds};
 ghost use Rattle.format.specs.ValidStep.{ValidStep};
 ghost use Rattle.format.specs.Stages.{partOf, takes};
-ghost use Rattle.color_table.specs.Pack.{Hints};
+ghost use Rattle.color_table.specs.Hints.{Hints};
 ghost use Rattle.chain.specs.Valid.{Valid, acceptsBy};
 ghost use Rattle.store.specs.Scratch.{Scratch};
 ghost use Rattle.store.specs.Stage.{TableAt, HintsFor, Storing};
@@ -37,7 +37,7 @@ pub fn table_at(chain: Chain) -> usize
 }
 
 // Hints for the entries of record t.
-pub fn hints_at(chain: Chain, t: usize, data: &[u8]) -> [u8; 4096]
+pub fn hints_at(chain: Chain, t: usize, data: &[u8]) -> [u8; 4352]
     requires { ⌜ Valid chain (now «data») × TableAt chain t ⌝ }
     ensures { λ r. ⌜ HintsFor chain (now («data» .entry)) r ⌝ }
 {
@@ -46,7 +46,7 @@ pub fn hints_at(chain: Chain, t: usize, data: &[u8]) -> [u8; 4096]
         let s = steps[t];
         return hints_of(part_of(data, s), s.size);
     }
-    [0u8; 4096]
+    [0u8; 4352]
 }
 
 // Whether each pixel of the picture has an entry, where the first record is a table.

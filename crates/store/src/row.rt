@@ -15,7 +15,7 @@ ghost use Rattle.format.specs.Sizes.{Sized, Holds};
 ghost use Rattle.format.specs.Chain.{narrowed};
 ghost use Rattle.format.specs.ValidStep.{ValidStep};
 ghost use Rattle.format.specs.Stages.{partOf, forward, takes};
-ghost use Rattle.color_table.specs.Pack.{Hints};
+ghost use Rattle.color_table.specs.Hints.{Hints};
 ghost use Rattle.pixel.specs.Held.{HoldsRow};
 ghost use Rattle.chain.specs.Valid.{stepsOf};
 ghost use Rattle.store.specs.Scratch.{Scratch};

@@ -16,7 +16,7 @@ ghost use Rattle.format.specs.ColorTable.{haveEntries};
 ghost use Rattle.format.specs.Sizes.{Sized};
 ghost use Rattle.format.specs.ValidStep.{ValidStep};
 ghost use Rattle.format.specs.Stages.{partOf};
-ghost use Rattle.color_table.specs.Pack.{Hints};
+ghost use Rattle.color_table.specs.Hints.{Hints};
 ghost use Rattle.store.specs.Scratch.{Scratch};
 ghost use Rattle.store.specs.Stage.{TableStep, Takes, PackedRow, Advanced};
 

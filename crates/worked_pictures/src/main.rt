@@ -1,11 +1,12 @@
-// The worked pictures of document 01 and of the format's text, run through the exported calls: a line for each call,
-// with its number and the bytes that came out.
+// The worked pictures of documents 01 and 02 and of the format's text, run through the exported calls: a line for each
+// call, with its number and the bytes that came out.
 mod calls;
 mod chains;
 mod color_pictures;
 mod limits;
 mod predictor_pictures;
 mod print;
+mod report_pictures;
 mod retouch_pictures;
 mod table_pictures;
 
@@ -26,5 +27,8 @@ fn main() {
     retouch_pictures::shared();
     retouch_pictures::five();
     retouch_pictures::entries();
+    report_pictures::shipment();
+    report_pictures::lists();
+    report_pictures::full();
     limits::limits();
 }

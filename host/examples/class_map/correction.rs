@@ -1,30 +1,28 @@
 //! What a planner's correction does: paint a pixel, and send the records that it changed.
 
-use crate::counts::hex;
 use letchwater::{store, Chain, Picture, Pixel, Point, Refusal, Size, StoredPicture};
 use std::error::Error;
 
 /// The table has the map's colors alone, and no PPM picture has a clear one.
 const NOT_IN_THE_TABLE: Pixel = Pixel::new(0, 0, 0, 0);
 
-/// Corrects the pixel in the middle: first by a color that is refused, then by one that is not.
-pub fn show(chain: Chain, picture: Picture) -> Result<(), Box<dyn Error>> {
+/// Corrects the pixel in the middle: first by a color that is refused, then by one that is not. Returns
+/// the corrected map.
+pub fn show(chain: Chain, picture: Picture) -> Result<Picture, Box<dyn Error>> {
     let Size { width, height } = picture.size();
     let point = Point::new(width / 2, height / 2);
     let color = other_color(&picture, point);
     let mut map = StoredPicture::new(chain, picture)?;
 
-    let name = hex(NOT_IN_THE_TABLE);
     match map.retouch(point, NOT_IN_THE_TABLE) {
         Err(error) if error.refusal() == Some(Refusal::NoEntryForRetouch) => {
-            println!("greyed out {name} at {point}\n           {error}");
+            println!("greyed out {NOT_IN_THE_TABLE} at {point}\n           {error}");
         }
-        answer => return Err(format!("{name} was not refused: {answer:?}").into()),
+        answer => return Err(format!("{NOT_IN_THE_TABLE} was not refused: {answer:?}").into()),
     }
 
     let changed = map.retouch(point, color)?;
-    let name = hex(color);
-    println!("painted    {name} at {point}");
+    println!("painted    {color} at {point}");
     println!("to send    {} records", changed.count());
     for &index in changed.indices() {
         let record = map.strip().record(index).ok_or("no such record")?;
@@ -35,7 +33,7 @@ pub fn show(chain: Chain, picture: Picture) -> Result<(), Box<dyn Error>> {
         return Err("the strip is not the corrected map stored afresh".into());
     }
     println!("checked    the strip is the corrected map stored afresh");
-    Ok(())
+    Ok(map.into_parts().1)
 }
 
 /// A color of the map that the pixel has not; its own where there is no other.

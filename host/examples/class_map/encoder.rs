@@ -11,8 +11,7 @@ const MODES: u8 = 14;
 
 /// A color table of the colors found, then a predictor, with a line that says so.
 pub fn chain(picture: &Picture) -> Result<(Chain, String), Error> {
-    let colors: BTreeSet<Pixel> = picture.pixels().collect();
-    let table: Vec<Pixel> = colors.into_iter().collect();
+    let table = colors(picture);
     let chain = Chain::new(picture.size()).color_table(&table);
     chain.check()?;
     let blocks = best_modes(&chain, picture)?;
@@ -22,6 +21,12 @@ pub fn chain(picture: &Picture) -> Result<(Chain, String), Error> {
         chain.blocks(BITS)
     );
     Ok((chain.predictor(BITS, &blocks), description))
+}
+
+/// The colors that a picture has, each once.
+pub fn colors(picture: &Picture) -> Vec<Pixel> {
+    let colors: BTreeSet<Pixel> = picture.pixels().collect();
+    colors.into_iter().collect()
 }
 
 /// For each block the mode that leaves the most residuals zero. A residual depends on the mode of

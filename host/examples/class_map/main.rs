@@ -1,13 +1,13 @@
-//! Stores a class map, rebuilds it, counts its colors, writes the rebuilt map as a PNG, and corrects a
-//! pixel of it.
+//! Stores a class map, rebuilds it, writes the rebuilt map as a PNG, corrects a pixel of it, and reports
+//! on a shipment of three maps.
 //!
 //!     class_map [MAP.ppm [PICTURE.png]]
 
 mod correction;
-mod counts;
 mod encoder;
 mod png;
 mod ppm;
+mod shipment;
 
 use letchwater::{rebuild, store, Pixel};
 use std::error::Error;
@@ -60,11 +60,12 @@ fn run(map: &Path, picture: &Path) -> Result<(), Box<dyn Error>> {
     if rebuilt != class_map {
         return Err("the rebuilt picture is not the class map".into());
     }
-    println!("rebuilt    equal to the class map in all {bytes} bytes\n");
-    print!("{}", counts::table(&rebuilt));
-
+    println!("rebuilt    equal to the class map in all {bytes} bytes");
     fs::write(picture, png::write(&rebuilt))
         .map_err(|error| format!("{}: {error}", picture.display()))?;
-    println!("\nwritten    {}\n", picture.display());
-    correction::show(chain, rebuilt)
+    println!("written    {}\n", picture.display());
+
+    let corrected = correction::show(chain, rebuilt)?;
+    println!();
+    shipment::show(&class_map, &corrected)
 }

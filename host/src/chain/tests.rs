@@ -1,6 +1,7 @@
 //! The layout, held against document 01's table of kinds, written out by hand.
 
 use super::*;
+use crate::Refusal;
 
 const A: Pixel = Pixel::new(1, 2, 3, 4);
 const B: Pixel = Pixel::new(5, 6, 7, 8);

@@ -153,7 +153,7 @@ impl Record {
     }
 }
 
-fn side(number: u32) -> Option<u16> {
+pub fn side(number: u32) -> Option<u16> {
     if matches!(number, 1..=16384) {
         Some(number as u16)
     } else {

@@ -2,7 +2,7 @@
 use mathlib.Core.Path.{refl, sym, _∙_}
 use borrow.Author.Needs.{needs}
 use Rattle.format.specs.ColorMap.{colorMapAnswer, unadjustColorMap}
-use Rattle.format.proofs.ColorMap.{taken-some}
+use Rattle.format.proofs.ColorMap.{taken-long}
 use Rattle.color_map.proofs.unadjust_color_map.Statement.{statement}
 use Rattle.color_map.proofs.unadjust_color_map.Tie as tie
 
@@ -13,7 +13,7 @@ unadjust-color-map-spec =
     (tie.spec
     (λ c κs. search needs)
     (λ c. rw (sym (c .before .refused .ensures) ∙ c .if1 .taken) (refl, refl))
-    (λ c κs. taken-some _ (sym (c .before .before .refused .ensures) ∙ c .before .if1 .left))
+    (λ c κs. taken-long _ (sym (c .before .before .refused .ensures) ∙ c .before .if1 .left) .0)
     (λ c. search needs)
     (λ c.
     rw (sym (c .before .before .before .before .before .refused .ensures) ∙ c .before .before .before .before .if1 .left)

@@ -2,6 +2,7 @@
 
 use crate::lines::Measured;
 use crate::pictures::Content;
+use crate::reports::Reported;
 
 /// Says of each bound whether it holds, and where it does not.
 pub fn judge(measured: &[Measured]) {
@@ -41,6 +42,39 @@ pub fn judge(measured: &[Measured]) {
             storing(256) / storing(2),
         )],
     );
+}
+
+/// The same of reports, where all pixels are of listed colors: storing refuses the others.
+pub fn judge_reports(reported: &[Reported]) {
+    for content in [Content::ClassMap, Content::Random] {
+        let judged = |line: &&Reported| line.content == content && line.storing.is_some();
+        let lines = || reported.iter().filter(judged);
+        let name = content.name();
+        let ratio = |line: &Reported| Some((line.name.clone(), line.report / line.storing?));
+        judge_all(
+            &format!("a report takes at most twice the time of storing by as many colors ({name})"),
+            2.0,
+            &lines().filter_map(ratio).collect::<Vec<_>>(),
+        );
+        let report = |colors, materials| {
+            let line = |line: &&Reported| (line.colors, line.materials) == (colors, materials);
+            lines().find(line).unwrap().report
+        };
+        judge_all(
+            &format!("a report by 256 colors takes at most twice the time of one by 2 ({name})"),
+            2.0,
+            &[
+                (
+                    "two colors in the picture".into(),
+                    report(256, 2) / report(2, 2),
+                ),
+                (
+                    "all listed colors in the picture".into(),
+                    report(256, 256) / report(2, 2),
+                ),
+            ],
+        );
+    }
 }
 
 fn ratios<'a>(

@@ -80,7 +80,7 @@ fn measure_rebuilding(given: &Given, strip: &[u8], way: &Way) -> (Vec<f64>, Vec<
     (rust, here, by_rust)
 }
 
-fn more(times: &[f64], runs: usize) -> bool {
+pub fn more(times: &[f64], runs: usize) -> bool {
     times.iter().sum::<f64>() < ENOUGH && times.len() <= MORE * runs
 }
 

@@ -1,6 +1,7 @@
 //! The two pictures: random bytes, and a class map as a belt camera sends it.
 
 use oracle::random::Xorshift;
+use oracle::shipments::distinct;
 
 /// One number of colors in each band of tables.
 pub const COLORS: [u16; 4] = [2, 4, 16, 256];
@@ -99,14 +100,9 @@ impl Pictures {
 /// Opaque colors, no two alike.
 pub fn palette(colors: u16) -> Vec<[u8; 4]> {
     let mut random = Xorshift::new(0xC0AC_29B7_C97C_50DD);
-    let mut palette = Vec::new();
-    while palette.len() < usize::from(colors) {
-        let color = [random.byte(), random.byte(), random.byte(), 255];
-        if !palette.contains(&color) {
-            palette.push(color);
-        }
-    }
-    palette
+    distinct(colors.into(), || {
+        [random.byte(), random.byte(), random.byte(), 255]
+    })
 }
 
 fn nearest(seeds: &[(i32, i32)], x: i32, y: i32) -> usize {

@@ -32,7 +32,7 @@ accept-groups-spec =
     let p = c .pass .ensures in
     let a = entry-accepted _ _ 0 _ (c .before .before .word-at .ensures) (omega arith) in
     let b = entry-accepted _ _ (c .before .before .before .before .before .before .args .size - 1) _ (c .before .word-at2 .ensures) (omega arith) in
-    (p .0, p .1, accepted-front _ _ _ _ _ (c .pass .result) (p .2) a b, a))
+    (p .0, p .2, accepted-front _ _ _ _ _ (c .pass .result) (p .3) a b, a))
     (λ c κs. let l = c .before .loop in (c .before .before .before .before .before .before .before .before .pre .0, (omega arith, (l .inv .2, l .inv .3))))
     (λ c. accepted-fewer _ _ _ (c .before .before .before .loop .i + 16) (c .before .before .before .before .before .before .before .before .before .before .args .count) (sym (c .before .accept-group .ensures) ∙ not-true _ (c .if1 .taken)) (omega arith))
     (λ c. omega arith)

@@ -1,29 +1,39 @@
--- `find` meets its contract: an entry that equals w has w's lowest index, and a slot's index is the lowest one of its entry.
+-- `find` meets its contract: before each turn every entry that equals w is reached from i.
+use mathlib.Core.Path.{sym, _∙_}
+use Prim.Native.Nat.{_<_, _+_, _-_}
 use native.Mathlib.Omega.{arith}
 use borrow.Author.Needs.{needs}
-use Rattle.color_table.proofs.Index.{hint-hit}
+use borrow.Author.Tests.{not-true, not-false}
+use Rattle.format.specs.Picture.{pixels}
+use Rattle.pixel.specs.Word.{unword}
+use Rattle.color_table.proofs.Hints.{Leads, leads-slot, leads-link, leads-found, leads-none}
 use Rattle.color_table.proofs.find.find.Statement.{statement}
 use Rattle.color_table.proofs.find.find.Tie as tie
+
+abbrev Inv-loop : tie.InvT-loop
+Inv-loop entries size hints w i₀ i = (i < size) × Leads size (pixels entries) (unword w) i
+
+abbrev μ-loop : tie.MeasureT-loop
+μ-loop entries size hints w i₀ i = size - i
 
 pub find-spec : {M : Type 1} → statement M
 find-spec =
     tie.close
     (tie.spec
+    Inv-loop
+    μ-loop
     (λ c κs. search needs)
-    (λ c. search needs)
-    (λ c. let s = c .before .before .before .before in omega (arith, s .pre .hinted .below (c .before .first-slot .result)))
-    (λ c κs. let s = c .before .before .before .before in omega (arith, s .pre .hinted .below (c .before .first-slot .result)))
+    (λ c. omega (arith, c .before .before .before .before .pre .hinted .full, c .before .slot .ensures .1))
+    (λ c. omega (arith, c .before .before .before .before .pre .hinted .below (c .before .slot .result)))
+    (λ c. let h = c .before .before .before .before .pre .hinted in (h .below (c .before .slot .result), rw (c .before .slot .ensures .0) (leads-slot _ _ _ h _)))
+    (λ c κs. omega (arith, c .before .before .before .before .before .pre .there))
     (λ c κs. search needs)
+    (λ c. omega (arith, c .before .before .before .before .before .before .before .before .pre .most))
+    (λ c. omega (arith, c .before .before .before .before .before .before .before .before .before .pre .most, c .before .before .before .before .before .before .before .before .before .pre .hinted .full))
+    (λ c. omega (arith, c .before .before .before .before .before .before .before .before .before .pre .hinted .below (4096 + c .before .before .before .before .loop .i)))
+    (λ c. leads-none _ _ _ (c .before .before .before .before .before .before .before .before .before .before .pre .hinted) _ (c .before .before .before .before .before .loop .i) (c .before .before .before .before .before .loop .inv .1) (rw (c .before .before .before .before .word-at .ensures) at (sym (c .before .before .before .same .ensures) ∙ not-true _ (c .before .before .if1 .taken))) (c .if2 .taken))
     (λ c.
-    let s = c .before .before .before .before .before .before .before in
-    hint-hit _ _ _ _ _ _ _ (s .pre .hinted) (c .before .before .word-at .ensures) (c .before .same .ensures) (c .if1 .taken))
-    (λ c κs. search needs)
-    (λ c. search needs)
-    (λ c. let s = c .before .before .before .before .before .before .before .before .before in omega (arith, s .pre .hinted .below (c .before .second-slot .result)))
-    (λ c κs. let s = c .before .before .before .before .before .before .before .before .before in omega (arith, s .pre .hinted .below (c .before .second-slot .result)))
-    (λ c κs. search needs)
-    (λ c.
-    let s = c .before .before .before .before .before .before .before .before .before .before .before .before in
-    hint-hit _ _ _ _ _ _ _ (s .pre .hinted) (c .before .before .word-at2 .ensures) (c .before .same2 .ensures) (c .if2 .taken))
-    (λ c κs. search needs)
-    (λ c. search needs))
+    let n = c .if2 .left in
+    omega (arith, c .before .before .before .before .before .before .before .before .before .before .pre .hinted .up (c .before .before .before .before .before .loop .i) (omega arith), c .before .before .before .before .before .loop .inv .0))
+    (λ c. (c .before .before .before .before .before .before .before .before .before .before .pre .hinted .below (4096 + c .before .before .before .before .before .loop .i), leads-link _ _ _ (c .before .before .before .before .before .before .before .before .before .before .pre .hinted) _ (c .before .before .before .before .before .loop .i) (c .before .before .before .before .before .loop .inv .1) (rw (c .before .before .before .before .word-at .ensures) at (sym (c .before .before .before .same .ensures) ∙ not-true _ (c .before .before .if1 .taken)))))
+    (λ c. leads-found _ _ _ (c .before .before .before .before .before .before .before .before .pre .hinted) _ (c .before .before .before .loop .i) (c .before .before .before .loop .inv .1) (c .before .before .before .loop .inv .0) (rw (c .before .before .word-at .ensures) at (sym (c .before .same .ensures) ∙ not-false _ (c .if1 .left)))))

@@ -13,7 +13,7 @@ first-holds-spec =
     (tie.spec
     (λ c κs. search needs)
     (λ c. search needs)
-    (λ c. omega (arith, c .before .before .before .before .pre .hinted .below (c .before .first-slot .result)))
-    (λ c κs. omega (arith, c .before .before .before .before .pre .hinted .below (c .before .first-slot .result)))
+    (λ c. omega (arith, c .before .before .before .before .pre .hinted .below (c .before .slot .result)))
+    (λ c κs. omega (arith, c .before .before .before .before .pre .hinted .below (c .before .slot .result)))
     (λ c κs. search needs)
-    (λ c. λ t. entry-accepted _ _ _ _ (sym (equal-true _ _ (sym (c .same .ensures) ∙ t)) ∙ c .before .word-at .ensures) (c .before .before .before .before .before .before .pre .hinted .below (c .before .before .before .first-slot .result))))
+    (λ c. λ t. entry-accepted _ _ _ _ (sym (equal-true _ _ (sym (c .same .ensures) ∙ t)) ∙ c .before .word-at .ensures) (c .before .before .before .before .before .before .pre .hinted .below (c .before .before .before .slot .result))))

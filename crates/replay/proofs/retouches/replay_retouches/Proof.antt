@@ -8,10 +8,10 @@ use Rattle.replay.proofs.retouches.replay_retouches.Statement.{statemen
 use Rattle.replay.proofs.retouches.replay_retouches.Tie as tie
 
 abbrev Inv-loop : tie.InvT-loop
-Inv-loop c chain «data» picture₀ strip₀ all₀ some₀ i₀ picture strip all some i = (i ≤ c .answer) × (length picture ≡ length picture₀) × (length strip ≡ length strip₀)
+Inv-loop c chain «data» picture₀ strip₀ outcome₀ i₀ picture strip outcome i = (i ≤ c .answer) × (length picture ≡ length picture₀) × (length strip ≡ length strip₀)
 
 abbrev μ-loop : tie.MeasureT-loop
-μ-loop c chain «data» picture₀ strip₀ all₀ some₀ i₀ picture strip all some i = c .answer - i
+μ-loop c chain «data» picture₀ strip₀ outcome₀ i₀ picture strip outcome i = c .answer - i
 
 pub replay-retouches-spec : {M : Type 1} → statement M
 replay-retouches-spec =
@@ -19,16 +19,13 @@ replay-retouches-spec =
     (tie.spec
     Inv-loop
     μ-loop
+    (λ c κs. search needs)
     (λ c. (omega arith, refl, refl))
     (λ c κs. search needs)
-    (λ c. search needs)
-    (λ c. search needs)
-    (λ c. c .before .before .before .before .before .before .replay-retouch .kept .1 .1 .1 .0 ∙ c .before .before .before .before .before .before .before .before .before .before .before .loop .inv .1)
-    (λ c. c .before .before .before .before .before .before .replay-retouch .kept .1 .1 .1 .1 .0 ∙ c .before .before .before .before .before .before .before .before .before .before .before .loop .inv .2)
-    (λ c. search needs)
+    (λ c κs. search needs)
     (λ c. omega arith)
     (λ c. omega arith)
-    (λ c. (omega arith, c .before .before .before .before .before .before .before .replay-retouch .kept .1 .1 .1 .0 ∙ c .before .before .before .before .before .before .before .before .before .before .before .before .loop .inv .1, c .before .before .before .before .before .before .before .replay-retouch .kept .1 .1 .1 .1 .0 ∙ c .before .before .before .before .before .before .before .before .before .before .before .before .loop .inv .2))
+    (λ c. (omega arith, c .before .before .before .before .before .replay-retouch .kept .1 .1 .1 .0 ∙ c .before .before .before .before .before .before .before .before .before .before .loop .inv .1, c .before .before .before .before .before .replay-retouch .kept .1 .1 .1 .1 .0 ∙ c .before .before .before .before .before .before .before .before .before .before .loop .inv .2))
     (λ c. c .before .before .loop .inv .1)
     (λ c. c .before .before .loop .inv .2)
     (λ c. search needs))

@@ -8,8 +8,8 @@ use Rattle.format.specs.Picture.{pixels}
 use Rattle.pixel.specs.Word.{unword}
 use Rattle.color_table.specs.Pack.{EachOf}
 use Rattle.color_table.proofs.Index.{each-more}
-use Rattle.color_table.proofs.accept.eight_of.Statement.{statement}
-use Rattle.color_table.proofs.accept.eight_of.Tie as tie
+use Rattle.color_table.proofs.groups.eight_of.Statement.{statement}
+use Rattle.color_table.proofs.groups.eight_of.Tie as tie
 
 abbrev Inv-loop : tie.InvT-loop
 Inv-loop row i a b all₀ k₀ all k = (k ≤ 8) × (all ≡ true → EachOf (unword a) (unword b) (pixels row) i k)

@@ -1,10 +1,10 @@
--- `replay_list` is safe: the lengths of the parts were tested where they were read.
+-- `replay_retouch_list` is safe: the lengths of the parts were tested where they were read.
 use borrow.Author.Needs.{needs}
-use Rattle.replay.proofs.list.replay_list.Statement.{statement}
-use Rattle.replay.proofs.list.replay_list.Tie as tie
+use Rattle.replay.proofs.list.replay_retouch_list.Statement.{statement}
+use Rattle.replay.proofs.list.replay_retouch_list.Tie as tie
 
-pub replay-list-spec : {M : Type 1} → statement M
-replay-list-spec =
+pub replay-retouch-list-spec : {M : Type 1} → statement M
+replay-retouch-list-spec =
     tie.close
     (tie.spec
     (λ c κs. search needs)

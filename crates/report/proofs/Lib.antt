@@ -1,0 +1,4 @@
+pub mod Own
+pub mod Counts
+pub mod Sums
+pub mod Answers

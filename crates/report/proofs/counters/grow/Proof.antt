@@ -1,0 +1,37 @@
+-- `grow` meets its contract: before each turn the first k counts have grown, and the others are the first ones.
+use mathlib.Core.Path.{_≡_, refl}
+use Prim.Native.Nat.{_≤_, _-_}
+use native.Mathlib.Omega.{arith}
+use borrow.Author.Needs.{needs}
+use Rattle.format.specs.Report.{counter}
+use Rattle.report.proofs.Sums.{Growing, growing-none, growing-more, growing-not, growing-done}
+use Rattle.report.proofs.counters.grow.Statement.{statement}
+use Rattle.report.proofs.counters.grow.Tie as tie
+
+abbrev Inv-loop : tie.InvT-loop
+Inv-loop counts₀ counters n k₀ counts k = (k ≤ n) × Growing k (counter counters) counts₀ counts
+
+abbrev μ-loop : tie.MeasureT-loop
+μ-loop counts₀ counters n k₀ counts k = n - k
+
+pub grow-spec : {M : Type 1} → statement M
+grow-spec =
+    tie.close
+    (tie.spec
+    Inv-loop
+    μ-loop
+    (λ c. (omega arith, growing-none _ _))
+    (λ c κs. omega arith)
+    (λ c. search needs)
+    (λ c. omega arith)
+    (λ c. omega arith)
+    (λ c. let l = c .before .before .before .before .loop in growing-not _ _ (c .before .before .before .before .before .before .args .n) (l .k) _ _ _ (l .inv .1) (omega arith) (c .before .before .counter-at .ensures) (omega (arith, c .if1 .taken)))
+    (λ c. omega arith)
+    (λ c. omega arith)
+    (λ c. omega (arith, c .before .if1 .left))
+    (λ c. omega arith)
+    (λ c. omega arith)
+    (λ c. omega arith)
+    (λ c. omega arith)
+    (λ c. let l = c .before .before .before .before .before .loop in (omega arith, growing-more _ _ (l .k) _ _ _ (l .inv .1) (omega arith) (c .before .before .before .counter-at .ensures) refl (omega (arith, c .before .if1 .left))))
+    (λ c. let l = c .before .loop in growing-done _ _ (c .before .before .before .args .n) (l .k) _ (l .inv .1) (omega arith)))

@@ -1,0 +1,44 @@
+-- Counts of a picture's pixels, and what becomes of them and of the counters.
+use mathlib.Core.Bool.{Bool, true}
+use mathlib.Core.List.{List}
+use mathlib.Core.Path.{_≡_}
+use Prim.Native.Nat.{ℕ, _+_, _^_, _<_, _≤_}
+use lib.Dec.{eqb, ltb}
+use lib.ListN.{length, getD}
+use Rattle.format.specs.Choice.{if_then_else_, every}
+use Rattle.format.specs.Indices.{howMany}
+use Rattle.format.specs.Picture.{Picture, pixels}
+use Rattle.format.specs.ColorTable.{indexOf}
+use Rattle.format.specs.Refusals.{accepted, _unless_}
+use Rattle.format.specs.Report.{counter, writtenCounters}
+
+-- number k of a list
+abbrev pub at : List ℕ → ℕ → ℕ
+at xs k = getD xs k 0
+
+-- how many of the first i pixels of f are found at each of m colors, and at none of them, which is index m
+pub record Counted (m : ℕ) (e : Picture) (i : ℕ) (f : Picture) (counts : List ℕ) : Type 0 where
+  pub full : length counts ≡ 257
+  pub found : (k : ℕ) → k ≤ m → at counts k ≡ howMany i (λ q. eqb (indexOf m e (f q)) k)
+
+-- the same of buffers
+abbrev pub CountedIn : ℕ → List ℕ → ℕ → List ℕ → List ℕ → Type 0
+CountedIn m colors i picture counts = Counted m (pixels colors) i (pixels picture) counts
+
+-- number k of g and of xs together
+abbrev pub together : (ℕ → ℕ) → List ℕ → ℕ → ℕ
+together g xs k = g k + at xs k
+
+-- none of the first n sums passes 2 ^ 64 - 1
+abbrev pub sumsFit : ℕ → (ℕ → ℕ) → List ℕ → Bool
+sumsFit n g xs = every n (λ k. ltb (together g xs k) (2 ^ 64))
+
+-- ys has the first n sums, where they fit
+pub record Grown (n : ℕ) (g : ℕ → ℕ) (xs ys : List ℕ) (r : Bool) : Type 0 where
+  pub fit : r ≡ sumsFit n g xs
+  pub sums : r ≡ true → (k : ℕ) → k < n → at ys k ≡ together g xs k
+
+-- the answer where counts are added to the first n counters of xs, and the counters ys that are left
+pub record Added (n : ℕ) (counts xs : List ℕ) (r : ℕ) (ys : List ℕ) : Type 0 where
+  pub answer : r ≡ (24 unless sumsFit n (counter xs) counts)
+  pub left : ys ≡ (if accepted r then writtenCounters n (together (counter xs) counts) xs else xs)

@@ -1,0 +1,2 @@
+-- What the contracts of `report` cite beside the definitions of `format`.
+pub mod Counts

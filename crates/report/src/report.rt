@@ -1,0 +1,46 @@
+// The report of a picture.
+use crate::colors::distinct;
+use crate::count::count_pixels;
+use crate::counters::add_counts;
+use chain::in_range;
+use color_map::refused;
+use color_table::find::hints_of;
+ghost use mathlib.Core.Path.{_≡_};
+ghost use Rattle.format.specs.Report.{reportAnswer, reportCounters};
+
+// Tests 1, 23, 8 and 24, then the counters. A list of colors is as long as a color map.
+pub fn report(
+    width: usize,
+    height: usize,
+    picture: &[u8],
+    colors: &[u8],
+    counters: &mut [u8],
+) -> u32
+    ensures { λ r. ⌜ r ≡ reportAnswer width height (now (picture .entry)) (now (colors .entry))
+        (now (counters .entry)) ⌝ }
+    ensures { λ r. ⌜ now (counters .exit) ≡ reportCounters width height (now (picture .entry)) (now (colors .entry))
+        (now (counters .entry)) ⌝ }
+{
+    if !in_range(width) {
+        return 1;
+    }
+    if !in_range(height) {
+        return 1;
+    }
+    if refused(colors.len()) {
+        return 23;
+    }
+    let size = colors.len() / 4;
+    let hints = hints_of(colors, size);
+    if !distinct(colors, size, &hints) {
+        return 23;
+    }
+    if counters.len() < 8 * (size + 1) {
+        return 8;
+    }
+    if picture.len() < 4 * (height * width) {
+        return 8;
+    }
+    let counts = count_pixels(picture, height * width, colors, size, &hints);
+    add_counts(counters, counts, size + 1)
+}

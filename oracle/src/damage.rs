@@ -19,6 +19,27 @@ pub struct Input {
     without_entry: Option<[u8; 4]>,
 }
 
+/// Sides in range and out of it, and such that a product of 32 or of 64 bits would wrap to one that
+/// fits.
+pub const SIDES: [u32; 16] = [
+    0,
+    1,
+    2,
+    3,
+    8192,
+    16383,
+    16384,
+    16385,
+    32768,
+    65535,
+    65536,
+    65537,
+    1 << 30,
+    1 << 31,
+    (1 << 31) + 1,
+    u32::MAX,
+];
+
 pub struct Damage {
     pub number: u32,
     /// The record that is damaged, for refusals 3 to 7.

@@ -4,6 +4,7 @@
 pub mod calls;
 pub mod lent;
 pub mod random;
+pub mod seen;
 
 /// What a program says where there is no oracle to ask.
 pub const SKIPPED: &str = "skipped: the Rust source is absent \

@@ -1,5 +1,5 @@
 -- Tests 1, 2 and 8: what the code's tests say of the definition's refusal.
-use mathlib.Core.Bool.{Bool, true, false, _&&_}
+use mathlib.Core.Bool.{true, false, _&&_}
 use mathlib.Core.List.{List}
 use mathlib.Core.Path.{_≡_, refl, sym, _∙_}
 use Prim.Native.Nat.{ℕ, _*_, _%_, _≤_, _<_}

@@ -1,8 +1,8 @@
 -- Laws of hints: how they are made, from the last entry to the first, and that following them finds the lowest index.
 use mathlib.Core.Bool.{Bool, true, false}
 use mathlib.Core.List.{List}
-use mathlib.Core.Path.{_≡_, refl, sym, ap, _∙_}
-use Prim.Native.Nat.{ℕ, suc, _+_, _*_, _/_, _%_, _<_, _≤_}
+use mathlib.Core.Path.{_≡_, sym, ap, _∙_}
+use Prim.Native.Nat.{ℕ, suc, _+_, _<_, _≤_}
 use native.Mathlib.Decide.{ℕ-discrete, decLt}
 use native.Mathlib.Omega.{arith}
 use lib.ListN.{length, set, length-set, replicate, getD-replicate, length-replicate, List·getD-eq-default}
@@ -122,7 +122,8 @@ module _ (a size : ℕ) (e : Picture) (hints : List ℕ) (h : Linked (a + 1) siz
   linked : Linked a size e more
   linked = record { full = full; below = below; first = first; next = next; since = since; up = up }
 
-pub linked-more : (a b s size : ℕ) (e : Picture) (hints : List ℕ) → b ≡ a + 1 → s ≡ slotOf (e a) → Linked b size e hints → a < size → size ≤ 256 → Linked a size e (set (set hints (4096 + a) (slot hints s)) s a)
+pub linked-more : (a b s size : ℕ) (e : Picture) (hints : List ℕ) → b ≡ a + 1 → s ≡ slotOf (e a) → Linked b size e hints → a < size → size ≤ 256
+    → Linked a size e (set (set hints (4096 + a) (slot hints s)) s a)
 linked-more a b s size e hints p q h l m = rw q (linked a size e hints (rw p at h) l m)
 
 -- following them: every entry that is v is reached from i

@@ -1,15 +1,15 @@
 -- Laws of the report: each pixel belongs to one counter, and counters that were written are read back.
-use mathlib.Core.Bool.{Bool, true, false, not, _&&_, true≢false}
+use mathlib.Core.Bool.{Bool, true, false, not, true≢false}
 use mathlib.Core.List.{List}
 use mathlib.Core.Path.{_≡_, refl, sym, ap, _∙_}
 use Prim.Native.Nat.{ℕ, zero, suc, _+_, _*_, _/_, _%_, _^_, _<_, _≤_}
 use native.Mathlib.Nat.{zero-add, div-one, mul-comm, pow-succ', div-div-eq-div-mul}
 use native.Mathlib.Decide.{ℕ-discrete, decLt}
 use native.Mathlib.Omega.{arith}
-use borrow.Author.Tests.{eq-eqb, ne-eqb, eqb-true, lt-ltb, le-ltb, not-true, not-false}
-use lib.Dec.{eqb, ltb}
+use borrow.Author.Tests.{eq-eqb, ne-eqb, lt-ltb, le-ltb, not-true, not-false}
+use lib.Dec.{eqb}
 use lib.ListN.{length, drop}
-use Rattle.format.specs.Choice.{if_then_else_, bit, every}
+use Rattle.format.specs.Choice.{bit, every}
 use Rattle.format.specs.Indices.{howMany}
 use Rattle.format.specs.declared.Pixel.{Pixel}
 use Rattle.format.specs.Pixel.{equal}

@@ -1,20 +1,20 @@
 -- Laws of the call that reports: which numbers it answers, when it accepts, and what it adds.
-use mathlib.Core.Bool.{Bool, true, false, _&&_, true≢false}
+use mathlib.Core.Bool.{Bool, true, false, _&&_}
 use mathlib.Core.List.{List}
-use mathlib.Core.Logic.{_⊎_, inl, inr, _↔_}
+use mathlib.Core.Logic.{inl, inr, _↔_}
 use mathlib.Core.Path.{_≡_, refl, sym, ap, _∙_}
 use Prim.Native.Nat.{ℕ, _+_, _*_, _^_, _<_, _≤_}
 use native.Mathlib.Nat.{add-zero}
 use native.Mathlib.Decide.{ℕ-discrete, decLt}
 use native.Mathlib.Omega.{arith}
 use borrow.Author.Tests.{leb-true, le-leb, ltb-true, lt-ltb, le-ltb}
-use lib.Dec.{leb, ltb, lit<}
+use lib.Dec.{ltb, lit<}
 use lib.ListN.{length, drop}
 use Rattle.format.specs.Choice.{if_then_else_, every}
-use Rattle.format.specs.Picture.{Picture, pixels}
+use Rattle.format.specs.Picture.{pixels}
 use Rattle.format.specs.Refusals.{sizeRefusal, accepted, inRange, _unless_, _before_}
 use Rattle.format.specs.Calls.{holds}
-use Rattle.format.specs.Report.{added, counter, writtenCounters, colorCount, counterCount, distinct, inFours, colorList, holdsCounters, grown, reportAnswer, reportCounters, Map, mapAnswer, mapLeaves, sum}
+use Rattle.format.specs.Report.{added, counter, writtenCounters, colorCount, counterCount, inFours, colorList, holdsCounters, grown, reportAnswer, reportCounters, Map, mapAnswer, mapLeaves, sum}
 use Rattle.format.specs.Promises.{ReportNumber, ofColor, ofNone, allPixels, Reportable}
 use Rattle.format.proofs.Choice.{and-left, and-right, and-both, every-at, every-all}
 use Rattle.format.proofs.Valid.{before-zero, unless-zero}

@@ -2,26 +2,24 @@
 use mathlib.Core.Bool.{Bool, true, false}
 use mathlib.Core.List.{List}
 use mathlib.Core.Path.{_≡_, refl, sym, ap, _∙_}
-use Prim.Native.Nat.{ℕ, suc, _+_, _-_, _*_, _/_, _^_, _<_, _≤_}
-use native.Mathlib.Decide.{ℕ-discrete, decLt}
+use Prim.Native.Nat.{ℕ, _+_, _-_, _<_, _≤_}
+use native.Mathlib.Decide.{ℕ-discrete}
 use native.Mathlib.Omega.{arith}
-use borrow.Author.Tests.{eq-eqb, ne-eqb, lt-ltb, le-ltb}
-use lib.Dec.{eqb, ltb}
-use lib.ListN.{length, set, length-set, replicate, getD-replicate, length-replicate}
+use borrow.Author.Tests.{eq-eqb, ne-eqb}
+use lib.Dec.{eqb}
+use lib.ListN.{set, length-set, replicate, getD-replicate, length-replicate}
 use lib.Seq.{getD-set-same, getD-set-other}
-use Rattle.format.specs.Choice.{every}
 use Rattle.format.specs.Indices.{howMany}
 use Rattle.format.specs.declared.Pixel.{Pixel}
 use Rattle.format.specs.Pixel.{equal}
 use Rattle.format.specs.Picture.{Picture}
 use Rattle.format.specs.ColorTable.{indexOf}
-use Rattle.format.proofs.Choice.{and-both, every-at}
 use Rattle.format.proofs.Indices.{howMany-most, howMany-alike}
 use Rattle.format.proofs.Pixels.{equal-true, equal-refl}
 use Rattle.format.proofs.ColorTable.{index-most}
 use Rattle.color_table.specs.Pack.{EachOf}
 use Rattle.color_table.proofs.Index.{each-passes}
-use Rattle.report.specs.Counts.{at, Counted, together, sumsFit, Grown}
+use Rattle.report.specs.Counts.{at, Counted}
 
 -- counts
 

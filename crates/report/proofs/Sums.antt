@@ -11,7 +11,6 @@ use lib.Dec.{ltb}
 use lib.ListN.{length, set, length-set}
 use lib.Pow.{pow-add}
 use lib.Seq.{getD-set-same, getD-set-other}
-use Rattle.format.specs.Choice.{every}
 use Rattle.format.specs.Picture.{writtenBytes}
 use Rattle.format.specs.Report.{counter, counterByte, writtenCounters}
 use Rattle.format.proofs.Choice.{and-both, every-at}

@@ -2,7 +2,7 @@
 use mathlib.Core.Bool.{Bool, true}
 use mathlib.Core.List.{List}
 use mathlib.Core.Path.{_≡_}
-use Prim.Native.Nat.{ℕ, _+_, _^_, _<_, _≤_}
+use Prim.Native.Nat.{ℕ, _+_, _*_, _%_, _^_, _<_, _≤_}
 use lib.Dec.{eqb, ltb}
 use lib.ListN.{length, getD}
 use Rattle.format.specs.Choice.{if_then_else_, every}
@@ -24,6 +24,14 @@ pub record Counted (m : ℕ) (e : Picture) (i : ℕ) (f : Picture) (counts : Lis
 -- the same of buffers
 abbrev pub CountedIn : ℕ → List ℕ → ℕ → List ℕ → List ℕ → Type 0
 CountedIn m colors i picture counts = Counted m (pixels colors) i (pixels picture) counts
+
+-- pixel i starts a group of sixteen, one of whole groups that the picture has up to pixel `whole`
+pub record Groups (i whole : ℕ) (picture : List ℕ) : Type 0 where
+  pub start : i % 16 ≡ 0
+  pub end : whole % 16 ≡ 0
+  pub more : i < whole
+  pub few : whole ≤ 268435456
+  pub there : 4 * whole ≤ length picture
 
 -- number k of g and of xs together
 abbrev pub together : (ℕ → ℕ) → List ℕ → ℕ → ℕ

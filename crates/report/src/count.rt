@@ -7,7 +7,7 @@ ghost use mathlib.Core.Path.{_≡_};
 ghost use Prim.Native.Nat.{_+_, _*_, _%_, _<_, _≤_};
 ghost use lib.ListN.{length, set};
 ghost use Rattle.color_table.specs.Hints.{Table};
-ghost use Rattle.report.specs.Counts.{at, CountedIn};
+ghost use Rattle.report.specs.Counts.{at, Groups, CountedIn};
 
 // n pixels more at index k.
 fn add(counts: &mut [u64; 257], k: usize, n: usize)
@@ -39,7 +39,28 @@ fn count_each(
     }
 }
 
-// The groups from pixel i on that are of its color, and the one after them.
+// The groups from pixel i on that are of its color, and how far they go.
+fn count_same(
+    picture: &[u8],
+    i: usize,
+    whole: usize,
+    colors: &[u8],
+    size: usize,
+    hints: &[u8],
+    counts: &mut [u64; 257],
+) -> usize
+    requires { ⌜ Table size (now colors) (now hints) × Groups i whole (now picture) ⌝ }
+    requires { ⌜ CountedIn size (now colors) i (now picture) (now counts) ⌝ }
+    ensures { λ r. ⌜ (r % 16 ≡ 0) × (i ≤ r) × (r ≤ whole)
+        × CountedIn size (now (colors .entry)) r (now (picture .entry)) (now (counts .exit)) ⌝ }
+{
+    let w = word_at(picture, i);
+    let j = pass(picture, i, whole, w, w);
+    add(counts, find(colors, size, hints, w), j - i);
+    j
+}
+
+// The same, and the group after them.
 fn count_run(
     picture: &[u8],
     i: usize,
@@ -49,16 +70,12 @@ fn count_run(
     hints: &[u8],
     counts: &mut [u64; 257],
 ) -> usize
-    requires { ⌜ Table size (now colors) (now hints) ⌝ }
-    requires { ⌜ (i % 16 ≡ 0) × (whole % 16 ≡ 0) × (i < whole) × (whole ≤ 268435456)
-        × (4 * whole ≤ length (now picture)) ⌝ }
+    requires { ⌜ Table size (now colors) (now hints) × Groups i whole (now picture) ⌝ }
     requires { ⌜ CountedIn size (now colors) i (now picture) (now counts) ⌝ }
     ensures { λ r. ⌜ (r % 16 ≡ 0) × (i < r) × (r ≤ whole)
         × CountedIn size (now (colors .entry)) r (now (picture .entry)) (now (counts .exit)) ⌝ }
 {
-    let w = word_at(picture, i);
-    let j = pass(picture, i, whole, w, w);
-    add(counts, find(colors, size, hints, w), j - i);
+    let j = count_same(picture, i, whole, colors, size, hints, counts);
     if whole <= j {
         return j;
     }

@@ -1,4 +1,4 @@
-// The report of a picture.
+// The report of a picture: a test, then what is left of the tests, each where those before it passed.
 use crate::colors::distinct;
 use crate::count::count_pixels;
 use crate::counters::add_counts;
@@ -6,9 +6,58 @@ use chain::in_range;
 use color_map::refused;
 use color_table::find::hints_of;
 ghost use mathlib.Core.Path.{_≡_};
+ghost use Rattle.format.specs.Sizes.{Sized};
 ghost use Rattle.format.specs.Report.{reportAnswer, reportCounters};
+ghost use Rattle.report.specs.Reported.{Listed, Reported};
 
-// Tests 1, 23, 8 and 24, then the counters. A list of colors is as long as a color map.
+// Tests 8 and 24, then the counters.
+fn report_listed(
+    width: usize,
+    height: usize,
+    picture: &[u8],
+    colors: &[u8],
+    hints: &[u8],
+    counters: &mut [u8],
+) -> u32
+    requires { ⌜ Sized width height × Listed (now colors) (now hints) ⌝ }
+    ensures { λ r. ⌜ Reported width height (now (picture .entry)) (now (colors .entry)) (now (counters .entry)) r
+        (now (counters .exit)) ⌝ }
+{
+    let size = colors.len() / 4;
+    if counters.len() < 8 * (size + 1) {
+        return 8;
+    }
+    if picture.len() < 4 * (height * width) {
+        return 8;
+    }
+    let counts = count_pixels(picture, height * width, colors, size, hints);
+    add_counts(counters, counts, size + 1)
+}
+
+// Test 23, then the rest. A list of colors is as long as a color map.
+fn report_sized(
+    width: usize,
+    height: usize,
+    picture: &[u8],
+    colors: &[u8],
+    counters: &mut [u8],
+) -> u32
+    requires { ⌜ Sized width height ⌝ }
+    ensures { λ r. ⌜ Reported width height (now (picture .entry)) (now (colors .entry)) (now (counters .entry)) r
+        (now (counters .exit)) ⌝ }
+{
+    if refused(colors.len()) {
+        return 23;
+    }
+    let size = colors.len() / 4;
+    let hints = hints_of(colors, size);
+    if !distinct(colors, size, &hints) {
+        return 23;
+    }
+    report_listed(width, height, picture, colors, &hints, counters)
+}
+
+// Test 1, then the rest.
 pub fn report(
     width: usize,
     height: usize,
@@ -27,20 +76,5 @@ pub fn report(
     if !in_range(height) {
         return 1;
     }
-    if refused(colors.len()) {
-        return 23;
-    }
-    let size = colors.len() / 4;
-    let hints = hints_of(colors, size);
-    if !distinct(colors, size, &hints) {
-        return 23;
-    }
-    if counters.len() < 8 * (size + 1) {
-        return 8;
-    }
-    if picture.len() < 4 * (height * width) {
-        return 8;
-    }
-    let counts = count_pixels(picture, height * width, colors, size, &hints);
-    add_counts(counters, counts, size + 1)
+    report_sized(width, height, picture, colors, counters)
 }

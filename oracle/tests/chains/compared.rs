@@ -3,15 +3,14 @@
 use oracle::given::Given;
 use oracle::lent::Lent;
 use oracle::random::Xorshift;
+use oracle::seen::Seen;
 use oracle::{calls, model};
-use std::collections::BTreeMap;
-use std::io::Write;
 
 /// What a test draws its inputs from, and what it saw.
 pub struct Compared {
     pub random: Xorshift,
     test: &'static str,
-    answers: BTreeMap<u32, u64>,
+    answers: Seen,
 }
 
 /// What a call returned, and its written buffer.
@@ -25,25 +24,15 @@ impl Compared {
         Self {
             random: Xorshift::new(seed),
             test,
-            answers: BTreeMap::new(),
+            answers: Seen::default(),
         }
     }
 
-    /// Says how many answers there were, past the test harness, which would keep it to itself. A
-    /// test that has not seen an answer that it is about fails.
+    /// Says how many answers there were. A test that has not seen an answer that it is about fails.
     pub fn finish(self, expected: &[u32]) {
-        let all: u64 = self.answers.values().sum();
-        let each: Vec<String> = self
-            .answers
-            .iter()
-            .map(|(answer, count)| format!("{answer}: {count}"))
-            .collect();
-        let (test, each) = (self.test, each.join(", "));
-        let mut out = std::io::stdout();
-        writeln!(out, "{test}: {all} comparisons; answers {each}").unwrap();
-        for answer in expected {
-            assert!(self.answers.contains_key(answer), "{answer} was never seen");
-        }
+        let said = format!("{}: {} comparisons", self.test, self.answers.all());
+        self.answers
+            .finish(&said, |answer| answer.to_string(), expected);
     }
 
     /// `image` is the whole buffer before the call.
@@ -128,7 +117,7 @@ impl Compared {
             (0..expected.len()).find(|&i| called.bytes[i] != expected[i]),
         );
         assert!(answer == 0 || called.bytes == before, "written and refused");
-        *self.answers.entry(answer).or_default() += 1;
+        self.answers.saw(answer);
     }
 }
 

@@ -1,7 +1,7 @@
 //! Every refusal under its condition and under no other, and which of two comes first.
 
 use crate::compared::Compared;
-use oracle::damage::{damages, Damage, Input};
+use oracle::damage::{damages, Damage, Input, SIDES};
 use oracle::given::{orders, record, Given, Plan, COLOR, COLOR_TABLE, PREDICTOR};
 
 const ALL: [u32; 9] = [1, 2, 3, 4, 5, 6, 7, 8, 21];
@@ -193,22 +193,6 @@ fn compare_part(compared: &mut Compared, input: &Input, record: usize, offset: u
 #[test]
 fn every_kind_of_side() {
     let mut compared = Compared::new("every kind of side", 0x1283_5B01_4570_6FBE);
-    const SIDES: [u32; 14] = [
-        0,
-        1,
-        2,
-        3,
-        8192,
-        16383,
-        16384,
-        16385,
-        32768,
-        65535,
-        65536,
-        65537,
-        1 << 31,
-        u32::MAX,
-    ];
     for width in SIDES {
         for height in SIDES {
             for len in [0, 4] {

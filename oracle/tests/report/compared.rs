@@ -2,17 +2,17 @@
 
 use oracle::lent::Lent;
 use oracle::random::Xorshift;
+use oracle::seen::Seen;
 use oracle::shipments::{Map, Shipment};
 use oracle::{calls, model};
 use std::collections::BTreeMap;
-use std::io::Write;
 
 /// What a test draws its inputs from, and what it saw.
 pub struct Compared {
     pub random: Xorshift,
     test: &'static str,
     lists: u64,
-    answers: BTreeMap<u32, u64>,
+    answers: Seen,
 }
 
 /// What a list of calls returned, and the numbers that it left in the counters.
@@ -27,25 +27,16 @@ impl Compared {
             random: Xorshift::new(seed),
             test,
             lists: 0,
-            answers: BTreeMap::new(),
+            answers: Seen::default(),
         }
     }
 
-    /// Says how many answers there were, past the test harness, which would keep it to itself. A
-    /// test that has not seen an answer that it is about fails.
+    /// Says how many answers there were. A test that has not seen an answer that it is about fails.
     pub fn finish(self, expected: &[u32]) {
-        let all: u64 = self.answers.values().sum();
-        let each: Vec<String> = self
-            .answers
-            .iter()
-            .map(|(answer, count)| format!("{answer}: {count}"))
-            .collect();
-        let (test, lists, each) = (self.test, self.lists, each.join(", "));
-        let mut out = std::io::stdout();
-        writeln!(out, "{test}: {all} calls in {lists} lists; answers {each}").unwrap();
-        for answer in expected {
-            assert!(self.answers.contains_key(answer), "{answer} was never seen");
-        }
+        let (test, all, lists) = (self.test, self.answers.all(), self.lists);
+        let said = format!("{test}: {all} calls in {lists} lists");
+        self.answers
+            .finish(&said, |answer| answer.to_string(), expected);
     }
 
     /// Every answer is the model's, and so is every byte of the counters after it.
@@ -88,7 +79,7 @@ impl Compared {
         let lent = Lent::new(&mut self.random, picture);
         let answer = calls::report(*width, *height, lent.slice(), colors, counters.slice_mut());
         assert!(lent.slice() == picture && lent.kept_around());
-        *self.answers.entry(answer).or_default() += 1;
+        self.answers.saw(answer);
         answer
     }
 }

@@ -2,6 +2,7 @@
 //! changes no byte.
 
 use crate::compared::Compared;
+use oracle::damage::SIDES;
 use oracle::report_damage::{damages, listed_twice, undamaged, Damage};
 use oracle::shipments::{any_colors, distinct, of_one_slot, Map, Shipment, COUNTS, MOST};
 
@@ -105,29 +106,10 @@ fn every_length_of_the_buffers() {
     compared.finish(&[0, 8]);
 }
 
-/// Sides in range and out of it, and such that a product of 32 or of 64 bits would wrap to one that
-/// fits. With pictures that are empty or have one pixel: 1 or 8, and 0 for one pixel alone.
+/// With pictures that are empty or have one pixel: 1 or 8, and 0 for one pixel alone.
 #[test]
 fn every_kind_of_side() {
     let mut compared = Compared::new("every kind of side", 0x1283_5B01_4570_6FBE);
-    const SIDES: [u32; 16] = [
-        0,
-        1,
-        2,
-        3,
-        8192,
-        16383,
-        16384,
-        16385,
-        32768,
-        65535,
-        65536,
-        65537,
-        1 << 30,
-        1 << 31,
-        (1 << 31) + 1,
-        u32::MAX,
-    ];
     let colors = any_colors(&mut compared.random, 2);
     let mut shipment = undamaged(&mut compared.random, &colors);
     for (width, height) in SIDES.iter().flat_map(|&w| SIDES.map(|h| (w, h))) {

@@ -6,8 +6,8 @@ use oracle::given::Given;
 use oracle::model::{self, Desk};
 use oracle::random::Xorshift;
 use oracle::scenes::Scene;
-use std::collections::{BTreeMap, BTreeSet};
-use std::io::Write;
+use oracle::seen::Seen;
+use std::collections::BTreeSet;
 
 /// Where the answers of accepted calls begin.
 const ACCEPTED: u32 = 256;
@@ -35,7 +35,7 @@ pub struct Compared {
     test: &'static str,
     lists: u64,
     /// Refusals by their number, accepted calls by their count.
-    classes: BTreeMap<u32, u64>,
+    classes: Seen,
     pub masks: BTreeSet<u32>,
 }
 
@@ -45,31 +45,21 @@ impl Compared {
             random: Xorshift::new(seed),
             test,
             lists: 0,
-            classes: BTreeMap::new(),
+            classes: Seen::default(),
             masks: BTreeSet::new(),
         }
     }
 
-    /// Says what was seen, past the test harness, which would keep it to itself. A test that has
-    /// not seen a class of answers that it is about fails.
+    /// Says what was seen. A test that has not seen a class of answers that it is about fails.
     pub fn finish(self, expected: &[u32]) {
-        let all: u64 = self.classes.values().sum();
-        let class = |(&class, count): (&u32, &u64)| match class {
-            ..ACCEPTED => format!("{class}: {count}"),
-            _ => format!("accepted, count {}: {count}", (class - ACCEPTED) / 32),
+        let (test, all, lists) = (self.test, self.classes.all(), self.lists);
+        let masks = self.masks.len();
+        let said = format!("{test}: {all} calls in {lists} lists, {masks} masks");
+        let name = |class| match class {
+            ..ACCEPTED => class.to_string(),
+            _ => format!("accepted, count {}", (class - ACCEPTED) / 32),
         };
-        let classes: Vec<String> = self.classes.iter().map(class).collect();
-        let (test, lists, masks) = (self.test, self.lists, self.masks.len());
-        let classes = classes.join("; ");
-        let mut out = std::io::stdout();
-        writeln!(
-            out,
-            "{test}: {all} calls in {lists} lists, {masks} masks; {classes}"
-        )
-        .unwrap();
-        for class in expected {
-            assert!(self.classes.contains_key(class), "{class} was never seen");
-        }
+        self.classes.finish(&said, name, expected);
     }
 
     /// From the scene's picture and its strip: the answers and the bytes are the desk's, and
@@ -138,7 +128,7 @@ impl Compared {
                 answer - answer % 32
             }
         };
-        *self.classes.entry(class).or_default() += 1;
+        self.classes.saw(class);
     }
 
     /// Half of the buffers are longer than needed.

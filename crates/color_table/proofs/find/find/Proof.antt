@@ -25,15 +25,26 @@ find-spec =
     (λ c κs. search needs)
     (λ c. omega (arith, c .before .before .before .before .pre .hinted .full, c .before .slot .ensures .1))
     (λ c. omega (arith, c .before .before .before .before .pre .hinted .below (c .before .slot .result)))
-    (λ c. let h = c .before .before .before .before .pre .hinted in (h .below (c .before .slot .result), rw (c .before .slot .ensures .0) (leads-slot _ _ _ h _)))
+    (λ c. let h = c .before .before .before .before .pre .hinted in let s = c .before .slot in (h .below (s .result), rw (s .ensures .0) (leads-slot _ _ _ h _)))
     (λ c κs. omega (arith, c .before .before .before .before .before .pre .there))
     (λ c κs. search needs)
     (λ c. omega (arith, c .before .before .before .before .before .before .before .before .pre .most))
-    (λ c. omega (arith, c .before .before .before .before .before .before .before .before .before .pre .most, c .before .before .before .before .before .before .before .before .before .pre .hinted .full))
+    (λ c. let h = c .before .before .before .before .before .before .before .before .before .pre in omega (arith, h .most, h .hinted .full))
     (λ c. omega (arith, c .before .before .before .before .before .before .before .before .before .pre .hinted .below (4096 + c .before .before .before .before .loop .i)))
-    (λ c. leads-none _ _ _ (c .before .before .before .before .before .before .before .before .before .before .pre .hinted) _ (c .before .before .before .before .before .loop .i) (c .before .before .before .before .before .loop .inv .1) (rw (c .before .before .before .before .word-at .ensures) at (sym (c .before .before .before .same .ensures) ∙ not-true _ (c .before .before .if1 .taken))) (c .if2 .taken))
     (λ c.
+    let l = c .before .before .before .before .before .loop in
+    let n = rw (c .before .before .before .before .word-at .ensures) at (sym (c .before .before .before .same .ensures) ∙ not-true _ (c .before .before .if1 .taken)) in
+    leads-none _ _ _ (c .before .before .before .before .before .before .before .before .before .before .pre .hinted) _ (l .i) (l .inv .1) n (c .if2 .taken))
+    (λ c.
+    let l = c .before .before .before .before .before .loop in
     let n = c .if2 .left in
-    omega (arith, c .before .before .before .before .before .before .before .before .before .before .pre .hinted .up (c .before .before .before .before .before .loop .i) (omega arith), c .before .before .before .before .before .loop .inv .0))
-    (λ c. (c .before .before .before .before .before .before .before .before .before .before .pre .hinted .below (4096 + c .before .before .before .before .before .loop .i), leads-link _ _ _ (c .before .before .before .before .before .before .before .before .before .before .pre .hinted) _ (c .before .before .before .before .before .loop .i) (c .before .before .before .before .before .loop .inv .1) (rw (c .before .before .before .before .word-at .ensures) at (sym (c .before .before .before .same .ensures) ∙ not-true _ (c .before .before .if1 .taken)))))
-    (λ c. leads-found _ _ _ (c .before .before .before .before .before .before .before .before .pre .hinted) _ (c .before .before .before .loop .i) (c .before .before .before .loop .inv .1) (c .before .before .before .loop .inv .0) (rw (c .before .before .word-at .ensures) at (sym (c .before .same .ensures) ∙ not-false _ (c .if1 .left)))))
+    omega (arith, c .before .before .before .before .before .before .before .before .before .before .pre .hinted .up (l .i) (omega arith), l .inv .0))
+    (λ c.
+    let l = c .before .before .before .before .before .loop in
+    let h = c .before .before .before .before .before .before .before .before .before .before .pre .hinted in
+    let n = rw (c .before .before .before .before .word-at .ensures) at (sym (c .before .before .before .same .ensures) ∙ not-true _ (c .before .before .if1 .taken)) in
+    (h .below (4096 + l .i), leads-link _ _ _ h _ (l .i) (l .inv .1) n))
+    (λ c.
+    let l = c .before .before .before .loop in
+    let e = rw (c .before .before .word-at .ensures) at (sym (c .before .same .ensures) ∙ not-false _ (c .if1 .left)) in
+    leads-found _ _ _ (c .before .before .before .before .before .before .before .before .pre .hinted) _ (l .i) (l .inv .1) (l .inv .0) e))

@@ -1,8 +1,7 @@
 -- `distinct` meets its contract: before each turn the first k colors are found at their own indices.
-use mathlib.Core.Path.{_≡_, sym}
+use mathlib.Core.Path.{sym}
 use Prim.Native.Nat.{_≤_, _-_}
 use native.Mathlib.Omega.{arith}
-use borrow.Author.Needs.{needs}
 use Rattle.format.specs.Picture.{pixels}
 use Rattle.format.proofs.Report.{own-distinct}
 use Rattle.report.proofs.Own.{Own, own-more, own-not}

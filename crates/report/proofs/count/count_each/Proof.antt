@@ -22,10 +22,14 @@ count-each-spec =
     (λ c. (omega arith, omega arith, c .before .before .before .pre .1 .1))
     (λ c κs. omega arith)
     (λ c κs. c .before .before .before .before .before .before .before .pre .0)
-    (λ c κs. counted-room _ _ _ (c .before .before .before .before .loop .i) 1 _ _ _ (c .before .before .before .before .loop .inv .2) (omega (arith, c .before .before .before .before .before .before .before .before .pre .0 .most)) (c .find .ensures) (omega arith))
+    (λ c κs.
+    let l = c .before .before .before .before .loop in
+    let h = c .before .before .before .before .before .before .before .before .pre in
+    counted-room _ _ _ (l .i) 1 _ _ _ (l .inv .2) (h .0 .most) (c .find .ensures) (omega (arith, h .1 .0)))
     (λ c. omega arith)
     (λ c. omega arith)
     (λ c.
     let l = c .before .before .before .before .before .loop in
-    (omega arith, omega arith, rw (c .add .ensures) (counted-more _ _ _ (l .i) 1 _ _ _ (l .inv .2) (omega (arith, c .before .before .before .before .before .before .before .before .before .pre .0 .most)) (c .before .find .ensures) (one-same _ _ (l .i) (c .before .before .word-at .ensures)))))
-    (λ c. let q : c .before .loop .i ≡ c .before .before .before .before .before .args .to = omega arith in rw q at (c .before .loop .inv .2)))
+    let s = one-same _ _ (l .i) (c .before .before .word-at .ensures) in
+    (omega arith, omega arith, rw (c .add .ensures) (counted-more _ _ _ (l .i) 1 _ _ _ (l .inv .2) (c .before .before .before .before .before .before .before .before .before .pre .0 .most) (c .before .find .ensures) s)))
+    (λ c. let l = c .before .loop in let q : l .i ≡ c .before .before .before .before .before .args .to = omega arith in rw q at (l .inv .2)))

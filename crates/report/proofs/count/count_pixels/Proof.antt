@@ -22,10 +22,13 @@ count-pixels-spec =
     (λ c κs. omega (arith, c .before .before .before .pre .0 .most))
     (λ c. omega arith)
     (λ c. (omega arith, omega arith, c .no-counts .ensures))
-    (λ c κs. (c .before .before .before .before .before .before .before .pre .0, ((c .before .before .loop .inv .0, omega arith, omega arith, omega arith, omega arith), c .before .before .loop .inv .2)))
+    (λ c κs.
+    let l = c .before .before .loop .inv in
+    ((c .before .before .before .before .before .before .before .pre .0, record { start = l .0; end = omega arith; more = omega arith; few = omega arith; there = omega arith }), l .2))
     (λ c. omega (arith, c .count-run .ensures .1))
     (λ c. let r = c .count-run .ensures in (r .0, r .2, r .3))
     (λ c κs.
-    let q : c .before .before .loop .i ≡ c .before .before .before .before .before .before .before .args .count / 16 * 16 = omega arith in
-    (c .before .before .before .before .before .before .before .pre .0, ((omega arith, omega arith, omega arith), rw q at (c .before .before .loop .inv .2))))
+    let l = c .before .before .loop in
+    let q : l .i ≡ c .before .before .before .before .before .before .before .args .count / 16 * 16 = omega arith in
+    (c .before .before .before .before .before .before .before .pre .0, ((omega arith, omega arith, omega arith), rw q at (l .inv .2))))
     (λ c. c .count-each .ensures))

@@ -1,6 +1,4 @@
 -- `add_counts` meets its contract: what is written are the sums, where they fit.
-use mathlib.Core.Path.{_≡_, refl, sym, _∙_}
-use native.Mathlib.Omega.{arith}
 use borrow.Author.Needs.{needs}
 use borrow.Author.Tests.{not-true, not-false}
 use Rattle.report.proofs.Sums.{sums-not, sums-put}

@@ -1,5 +1,5 @@
 -- `grow` meets its contract: before each turn the first k counts have grown, and the others are the first ones.
-use mathlib.Core.Path.{_≡_, refl}
+use mathlib.Core.Path.{refl}
 use Prim.Native.Nat.{_≤_, _-_}
 use native.Mathlib.Omega.{arith}
 use borrow.Author.Needs.{needs}
@@ -25,7 +25,9 @@ grow-spec =
     (λ c. search needs)
     (λ c. omega arith)
     (λ c. omega arith)
-    (λ c. let l = c .before .before .before .before .loop in growing-not _ _ (c .before .before .before .before .before .before .args .n) (l .k) _ _ _ (l .inv .1) (omega arith) (c .before .before .counter-at .ensures) (omega (arith, c .if1 .taken)))
+    (λ c.
+    let l = c .before .before .before .before .loop in
+    growing-not _ _ (c .before .before .before .before .before .before .args .n) (l .k) _ _ _ (l .inv .1) (omega arith) (c .before .before .counter-at .ensures) (omega (arith, c .if1 .taken)))
     (λ c. omega arith)
     (λ c. omega arith)
     (λ c. omega (arith, c .before .if1 .left))
@@ -33,5 +35,8 @@ grow-spec =
     (λ c. omega arith)
     (λ c. omega arith)
     (λ c. omega arith)
-    (λ c. let l = c .before .before .before .before .before .loop in (omega arith, growing-more _ _ (l .k) _ _ _ (l .inv .1) (omega arith) (c .before .before .before .counter-at .ensures) refl (omega (arith, c .before .if1 .left))))
+    (λ c.
+    let l = c .before .before .before .before .before .loop in
+    let f = c .before .if1 .left in
+    (omega arith, growing-more _ _ (l .k) _ _ _ (l .inv .1) (omega arith) (c .before .before .before .counter-at .ensures) refl (omega arith)))
     (λ c. let l = c .before .loop in growing-done _ _ (c .before .before .before .args .n) (l .k) _ (l .inv .1) (omega arith)))

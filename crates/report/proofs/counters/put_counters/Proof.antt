@@ -2,10 +2,9 @@
 use mathlib.Core.Path.{_≡_, refl}
 use Prim.Native.Nat.{_≤_, _*_, _-_}
 use native.Mathlib.Omega.{arith}
-use borrow.Author.Needs.{needs}
 use lib.ListN.{length, length-set}
 use Rattle.format.specs.Picture.{writtenBytes}
-use Rattle.format.specs.Report.{counterByte, writtenCounters}
+use Rattle.format.specs.Report.{counterByte}
 use Rattle.report.specs.Counts.{at}
 use Rattle.report.proofs.Sums.{bytes-none, bytes-more, bytes-done}
 use Rattle.report.proofs.counters.put_counters.Statement.{statement}
@@ -32,6 +31,12 @@ put-counters-spec =
     (λ c. omega (arith, c .before .before .before .loop .inv .1))
     (λ c. omega arith)
     (λ c. omega arith)
-    (λ c. let l = c .before .before .before .loop in (omega arith, simp length-set (l .inv .1), bytes-more (at (c .before .before .before .before .before .args .numbers .now)) (c .before .before .before .before .before .args .counters .now) (l .i) _ _ (l .inv .2) (c .byte-of .ensures) (omega arith)))
+    (λ c.
+    let l = c .before .before .before .loop in
+    let g = at (c .before .before .before .before .before .args .numbers .now) in
+    let xs = c .before .before .before .before .before .args .counters .now in
+    (omega arith, simp length-set (l .inv .1), bytes-more g xs (l .i) _ _ (l .inv .2) (c .byte-of .ensures) (omega arith)))
     (λ c. c .before .loop .inv .1)
-    (λ c. let l = c .before .loop in bytes-done (at (c .before .before .before .args .numbers .now)) (c .before .before .before .args .counters .now) (c .before .before .before .args .n) (l .i) _ (l .inv .2) (omega arith)))
+    (λ c.
+    let l = c .before .loop in
+    bytes-done (at (c .before .before .before .args .numbers .now)) (c .before .before .before .args .counters .now) (c .before .before .before .args .n) (l .i) _ (l .inv .2) (omega arith)))

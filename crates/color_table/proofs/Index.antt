@@ -15,7 +15,8 @@ use Rattle.format.specs.ColorTable.{lowest, indexOf, hasEntry, haveEntries}
 use Rattle.format.proofs.Choice.{every-at, and-both, and-left, and-right, and-false-right}
 use Rattle.format.proofs.Pixels.{equal-true, equal-refl}
 use Rattle.format.proofs.ColorTable.{lowest-hit, lowest-least, index-least}
-use Rattle.color_table.specs.Pack.{oneOf, EachOf, EachHas, rowIndices}
+use Rattle.color_table.specs.OneOf.{oneOf, EachOf}
+use Rattle.color_table.specs.Pack.{EachHas, rowIndices}
 
 -- looking at each entry
 
@@ -153,15 +154,19 @@ each-next u v f a i m s h d k l = go (decLt (a + k) i)
     go (yes b) = h k (omega arith)
     go (no b) = let e : i + (a + k - i) ≡ a + k = omega arith in rw e at (d (a + k - i) (omega arith))
 
+-- pixels that are v or v
+pub each-same : (v : Pixel) (f : Picture) (i n : ℕ) → EachOf v v f i n → (q : ℕ) → i ≤ q → q < i + n → f q ≡ v
+each-same v f i n h q l u =
+    let e : i + (q - i) ≡ q = omega arith in
+    rw e at (equal-true (f (i + (q - i))) v (each-passes v v f i n (λ p. equal p v) h (equal-refl v) (equal-refl v) (q - i) (omega arith)))
+
 -- a group more that is v
 pub all-more : (v : Pixel) (f : Picture) (a g : ℕ) → ((q : ℕ) → a ≤ q → q < 16 * g → f q ≡ v) → EachOf v v f (16 * g) 16 → (q : ℕ) → a ≤ q → q < 16 * (g + 1) → f q ≡ v
 all-more v f a g h d q l u = go (decLt q (16 * g))
   where
     go : Dec (q < 16 * g) → f q ≡ v
     go (yes k) = h q l k
-    go (no k) =
-        let e : 16 * g + (q - 16 * g) ≡ q = omega arith in
-        rw e at (equal-true (f (16 * g + (q - 16 * g))) v (each-passes v v f (16 * g) 16 (λ p. equal p v) d (equal-refl v) (equal-refl v) (q - 16 * g) (omega arith)))
+    go (no k) = each-same v f (16 * g) 16 d q (omega arith) (omega arith)
 
 -- acceptance
 

@@ -1,5 +1,6 @@
 -- Hints by which the index of a color is found: 4096 slots, then a link for each of 256 entries. A color has one slot.
--- The slot holds the lowest index of the entries that have it, an entry's link the next one; 0 where there is none.
+-- The slot holds the lowest index of the entries that have it, an entry's link the next one; each is 0 where there is
+-- none.
 use mathlib.Core.List.{List}
 use mathlib.Core.Path.{_≡_}
 use Prim.Native.Nat.{ℕ, suc, _+_, _*_, _/_, _%_, _<_, _≤_}

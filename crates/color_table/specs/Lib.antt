@@ -2,4 +2,5 @@
 pub mod Table
 pub mod Unpack
 pub mod Hints
+pub mod OneOf
 pub mod Pack

@@ -23,13 +23,6 @@ pub record Few (size u : ℕ) (entries : List ℕ) : Type 0 where
   pub few : u ≤ 4
   pub there : 4 * size ≤ length entries
 
--- the n pixels of f from i on are u or v each
-abbrev pub oneOf : Pixel → Pixel → Pixel → Bool
-oneOf u v p = equal p u || equal p v
-
-abbrev pub EachOf : Pixel → Pixel → Picture → ℕ → ℕ → Type 0
-EachOf u v f i n = (k : ℕ) → k < n → oneOf u v (f (i + k)) ≡ true
-
 -- the n pixels of f from i on have entries
 abbrev pub EachHas : ℕ → Picture → Picture → ℕ → ℕ → Type 0
 EachHas size e f i n = (k : ℕ) → k < n → hasEntry size e (f (i + k)) ≡ true

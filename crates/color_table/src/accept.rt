@@ -1,5 +1,5 @@
-// Whether pixels have entries. Pictures are runs of few colors, so that groups of sixteen pixels are compared with the
-// pixel before them and their last one, and each is looked up only where one differs from both.
+// Whether pixels have entries. Groups of sixteen pixels are compared with the pixel before them and their last one, and
+// each is looked up only where one differs from both.
 use crate::find::find;
 use crate::find::first_holds;
 use crate::find::same;

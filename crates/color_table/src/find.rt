@@ -38,7 +38,8 @@ fn slot(w: u32) -> usize
     (w as usize) * 2654435761 / 1048576 % 4096
 }
 
-// The lowest index whose entry equals w, or `size`: each entry of w's slot in turn, lowest first.
+// The lowest index whose entry equals w, or `size`: the entries of w's slot in turn, lowest first. A slot with no entry
+// holds 0 as well, and then entry 0 and those linked to it are compared in vain.
 pub fn find(entries: &[u8], size: usize, hints: &[u8], w: u32) -> usize
     requires { ⌜ Table size (now entries) (now hints) ⌝ }
     ensures { λ r. ⌜ r ≡ indexOf size (pixels (now (entries .entry))) (unword w) ⌝ }
@@ -68,7 +69,8 @@ fn no_hints(entries: &[u8], size: usize) -> [u8; 4352]
     [0u8; 4352]
 }
 
-// Where entries are looked up: made once a picture. The last entry comes first, so that 0 is free to mean none.
+// Where entries are looked up: made once a picture. From the last entry down, so that a slot holds its lowest index, and
+// no link leads to entry 0: a link of 0 is none.
 pub fn hints_of(entries: &[u8], size: usize) -> [u8; 4352]
     requires { ⌜ (1 ≤ size) × (size ≤ 256) × (4 * size ≤ length (now entries)) ⌝ }
     ensures { λ r. ⌜ Hints size (pixels (now (entries .entry))) r ⌝ }

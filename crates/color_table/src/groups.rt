@@ -7,7 +7,7 @@ ghost use Prim.Native.Nat.{_+_, _-_, _*_, _%_, _≤_};
 ghost use lib.ListN.{length};
 ghost use Rattle.format.specs.Picture.{pixels};
 ghost use Rattle.pixel.specs.Word.{unword};
-ghost use Rattle.color_table.specs.Pack.{EachOf};
+ghost use Rattle.color_table.specs.OneOf.{EachOf};
 
 // Whether each of the eight pixels from i on is a or b: with no branch, so that they are compared at once. A group is
 // two of these, since a function of sixteen pixels is not inlined.

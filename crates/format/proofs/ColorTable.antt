@@ -87,7 +87,7 @@ module _ (size : ℕ) (e : Picture) (v : Pixel) where
 
 -- an index by shifts is a digit to the base `range n`
 
-pow-times : (a k : ℕ) → 2 ^ (a * k) ≡ (2 ^ a) ^ k
+pub pow-times : (a k : ℕ) → 2 ^ (a * k) ≡ (2 ^ a) ^ k
 pow-times a zero = let e : a * 0 ≡ 0 = omega arith in rw (e, pow-zero (2 ^ a), pow-zero 2) refl
 pow-times a (suc k) =
     let e : a * suc k ≡ a + a * k = omega arith in

@@ -48,9 +48,9 @@ abbrev shipment : List Map
 shipment =
     of 3 1 three
     ∷ of 3 1 (inRed (1 ∷ 2 ∷ []))
-    ∷ of 1 2 (inRed (2 ∷ 7 ∷ []))
+    ∷ of 1 3 (inRed (2 ∷ 2 ∷ []) ++ bytes 4)
     ∷ of 16385 1 three
-    ∷ of 2 1 (inRed (8 ∷ 9 ∷ []))
+    ∷ of 1 1 (inRed (8 ∷ []))
     ∷ []
 
 abbrev two : List ℕ
@@ -82,6 +82,7 @@ worked =
     is 2 ∷ 2 ∷ 3 ∷ 4 ∷ 5 ∷ 6 ∷ 7 ∷ 8 ∷ 11 ∷ 12 ∷ 13 ∷ 14 ∷ 15 ∷ 16 ∷ 17 ∷ 18 ∷ [])
     -- bytes beyond the last counter stay
     ∷ (single (bytes 16 ++ 7 ∷ 8 ∷ 9 ∷ []) is counts (1 ∷ 0 ∷ []) ++ 7 ∷ 8 ∷ 9 ∷ [])
+    ∷ (reportCounters 1 1 (bytes 4) (inRed (1 ∷ [])) (bytes 16 ++ full) is counts (0 ∷ 1 ∷ []) ++ full)
     -- 1: width and height are 1 to 16384; it comes before 23
     ∷ (reportAnswer 0 1 [] [] [] ∷ reportAnswer 1 0 [] [] [] ∷ reportAnswer 16385 1 [] [] [] ∷ reportAnswer 1 16385 [] [] []
     ∷ []
@@ -95,6 +96,7 @@ worked =
     ∷ (bit (inFours (bytes 1020)) ∷ bit (inFours (bytes 1023)) ∷ bit (inFours (bytes 1024)) ∷ bit (inFours (bytes 1028)) ∷ []
     is 1 ∷ 0 ∷ 1 ∷ 0 ∷ [])
     ∷ (singleAnswer [] [] [] ∷ singleAnswer [] (bytes 8) [] ∷ [] is 23 ∷ 23 ∷ [])
+    ∷ (reportCounters 1 1 (bytes 4) (bytes 8) (counts (1 ∷ 2 ∷ 3 ∷ [])) is counts (1 ∷ 2 ∷ 3 ∷ []))
     -- a color listed twice, next to the first or far apart; one byte makes another color
     ∷ (colorsAnswer (inRed (1 ∷ 1 ∷ [])) ∷ colorsAnswer (inRed (1 ∷ 2 ∷ 3 ∷ 1 ∷ [])) ∷ colorsAnswer (inRed (3 ∷ 1 ∷ 2 ∷ 1 ∷ []))
     ∷ colorsAnswer (inRed (1 ∷ 2 ∷ 3 ∷ 3 ∷ [])) ∷ colorsAnswer (inRed (4 ∷ 1 ∷ 2 ∷ 3 ∷ [])) ∷ []
@@ -122,10 +124,11 @@ worked =
     ∷ (inThree (inRed (1 ∷ 2 ∷ [])) (bytes 8 ++ full ++ bytes 8) is bytes 8 ++ full ++ bytes 8)
     -- a list: refused calls between accepted ones
     ∷ (answersTo (report two) start shipment is 0 ∷ 8 ∷ 0 ∷ 1 ∷ 24 ∷ [])
-    ∷ (leftBy (report two) start shipment is counts (7 ∷ []) ++ (1 ∷ 1 ∷ bytes 6) ++ full ++ (6 ∷ []))
+    ∷ (answersTo (report (bytes 8)) start shipment is 23 ∷ 23 ∷ 23 ∷ 1 ∷ 23 ∷ [])
+    ∷ (leftBy (report two) start shipment is counts (7 ∷ []) ++ (2 ∷ 1 ∷ bytes 6) ++ full ++ (6 ∷ []))
     ∷ (total (ofColor two 0) (taken two start shipment) ∷ total (ofColor two 1) (taken two start shipment)
     ∷ total (ofNone two) (taken two start shipment) ∷ total allPixels (taken two start shipment) ∷ []
-    is 2 ∷ 2 ∷ 1 ∷ 5 ∷ [])
+    is 2 ∷ 3 ∷ 1 ∷ 6 ∷ [])
     ∷ (sum 3 (counter (counts (1 ∷ 2 ∷ 4 ∷ 8 ∷ []))) ∷ sum 3 (counter (bytes 8 ++ (0 ∷ 1 ∷ bytes 6) ++ bytes 8)) ∷ []
     is 7 ∷ 256 ∷ [])
     ∷ []

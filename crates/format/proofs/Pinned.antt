@@ -1,5 +1,5 @@
--- What the promises ask no more than, and admit no more than: a stored pair of more than one row, and a number that
--- retouching does not answer.
+-- What the promises ask no more than, and admit no more than: a stored pair of more than one row, and numbers that
+-- retouching and reporting do not answer.
 use mathlib.Core.List.{List, [], _∷_, _++_}
 use mathlib.Core.Logic.{_⊎_, inl, inr}
 use mathlib.Core.Path.{_≡_, refl}
@@ -17,7 +17,7 @@ use Rattle.format.specs.Refusals.{tabled, tabledLength, checked, records
 use Rattle.format.specs.Stages.{forward, backward, stored, rebuilt, takes, accepts}
 use Rattle.format.specs.Calls.{pairRefusal, rebuildAnswer, rebuildImage, storeAnswer, storeStrip}
 use Rattle.format.specs.Desk.{Buffers}
-use Rattle.format.specs.Promises.{StoredPair, RetouchNumber}
+use Rattle.format.specs.Promises.{StoredPair, RetouchNumber, ReportNumber}
 use Rattle.format.proofs.Worked.{blacks, zeros, mode, predictor, bytes}
 
 -- two rows, a strip and a picture with bytes beyond
@@ -30,3 +30,11 @@ pub ten : RetouchNumber 10 → ⊥
 ten (inl p) = let l : 10 ≤ 9 = p .1 in omega arith
 ten (inr (inl e)) = omega arith
 ten (inr (inr m)) = let e = m .2 in omega arith
+
+-- 7 is no answer of reporting
+pub seven : ReportNumber 7 → ⊥
+seven (inl e) = omega arith
+seven (inr (inl e)) = omega arith
+seven (inr (inr (inl e))) = omega arith
+seven (inr (inr (inr (inl e)))) = omega arith
+seven (inr (inr (inr (inr e)))) = omega arith

@@ -1,5 +1,5 @@
 -- What is promised: the demands of document 00, on the bytes of the calls. They are proved in proofs/Demands.antt.
-use mathlib.Core.Bool.{Bool, true, false, _&&_}
+use mathlib.Core.Bool.{true, false, _&&_}
 use mathlib.Core.List.{List}
 use mathlib.Core.Logic.{_⊎_, _↔_}
 use mathlib.Core.Path.{_≡_}

@@ -19,7 +19,7 @@ use Rattle.format.proofs.Choice.{and-right, and-both, and-false-right, every-sa
 use Rattle.format.proofs.ColorMap.{taken-long}
 use Rattle.format.proofs.Report.{added-found, counters-same}
 use Rattle.format.proofs.Reporting.{report-refused}
-use Rattle.report.specs.Counts.{Counted, together, sumsFit, Added}
+use Rattle.report.specs.Counts.{Counted, sumAt, sumsFit, Added}
 use Rattle.report.specs.Reported.{Reported}
 
 in-range : (x : ℕ) → 1 ≤ x → x ≤ 16384 → inRange x ≡ true
@@ -88,7 +88,7 @@ module _ (w h : ℕ) (picture colors counters : List ℕ) where
           apart : distinct (colorCount colors) (pixels colors) ≡ true
           apart = and-right (inFours colors) (distinct (colorCount colors) (pixels colors)) list
 
-          sum : (k : ℕ) → k < counterCount colors → together (counter counters) counts k ≡ grown w h picture colors counters k
+          sum : (k : ℕ) → k < counterCount colors → sumAt (counter counters) counts k ≡ grown w h picture colors counters k
           sum k l =
               let f = added-found (colorCount colors) (pixels colors) apart (h * w) (pixels picture) k (omega arith) in
               ap (λ (n : ℕ). counter counters k + n) (c .found k (omega arith) ∙ sym f)
@@ -105,8 +105,8 @@ module _ (w h : ℕ) (picture colors counters : List ℕ) where
           answer : r ≡ reportAnswer w h picture colors counters
           answer = a .answer ∙ ap (λ (b : Bool). 24 unless b) fits ∙ rw (unrefused, list, rooms) refl
 
-          left : (if accepted r then writtenCounters (counterCount colors) (together (counter counters) counts) counters else counters) ≡ reportCounters w h picture colors counters
+          left : (if accepted r then writtenCounters (counterCount colors) (sumAt (counter counters) counts) counters else counters) ≡ reportCounters w h picture colors counters
           left =
-              ap (λ (n : ℕ). if accepted n then writtenCounters (counterCount colors) (together (counter counters) counts) counters else counters) answer
+              ap (λ (n : ℕ). if accepted n then writtenCounters (counterCount colors) (sumAt (counter counters) counts) counters else counters) answer
               ∙ ap (λ (ys : List ℕ). if accepted (reportAnswer w h picture colors counters) then ys else counters)
-              (counters-same (counterCount colors) (together (counter counters) counts) (grown w h picture colors counters) counters sum)
+              (counters-same (counterCount colors) (sumAt (counter counters) counts) (grown w h picture colors counters) counters sum)

@@ -1,4 +1,4 @@
--- Laws of counts: pixels of one color more, and what is added to the counters.
+-- Laws of counts: pixels of one color more.
 use mathlib.Core.Bool.{Bool, true, false}
 use mathlib.Core.List.{List}
 use mathlib.Core.Path.{_≡_, refl, sym, ap, _∙_}
@@ -17,8 +17,8 @@ use Rattle.format.specs.ColorTable.{indexOf}
 use Rattle.format.proofs.Indices.{howMany-most, howMany-alike}
 use Rattle.format.proofs.Pixels.{equal-true, equal-refl}
 use Rattle.format.proofs.ColorTable.{index-most}
-use Rattle.color_table.specs.Pack.{EachOf}
-use Rattle.color_table.proofs.Index.{each-passes}
+use Rattle.color_table.specs.OneOf.{EachOf}
+use Rattle.color_table.proofs.Index.{each-same}
 use Rattle.report.specs.Counts.{at, Counted}
 
 -- counts
@@ -55,12 +55,6 @@ module _ (m : ℕ) (e f : Picture) where
       found j l (no q) =
           let a = h .found j l in
           rw (getD-set-other counts k j (at counts k + n) 0 (λ z. q (sym z))) (omega (arith, howMany-alike i n (λ q. eqb (indexOf m e (f q)) j) false (alike j false (ne-eqb k j q))))
-
--- pixels that are v or v
-pub each-same : (v : Pixel) (f : Picture) (i n : ℕ) → EachOf v v f i n → (q : ℕ) → i ≤ q → q < i + n → f q ≡ v
-each-same v f i n h q l u =
-    let e : i + (q - i) ≡ q = omega arith in
-    rw e at (equal-true (f (i + (q - i))) v (each-passes v v f i n (λ p. equal p v) h (equal-refl v) (equal-refl v) (q - i) (omega arith)))
 
 -- one pixel
 pub one-same : (v : Pixel) (f : Picture) (i : ℕ) → v ≡ f i → (q : ℕ) → i ≤ q → q < i + 1 → f q ≡ v

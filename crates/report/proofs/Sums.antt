@@ -1,37 +1,36 @@
--- Laws of sums: counts grown one by one by their counters, and numbers written byte by byte.
+-- Laws of sums: counters added to counts one by one, and numbers written byte by byte.
 use mathlib.Core.Bool.{Bool, true, false, true≢false}
 use mathlib.Core.List.{List}
 use mathlib.Core.Path.{_≡_, refl, sym, ap, _∙_}
 use Prim.Native.Nat.{ℕ, zero, suc, _+_, _*_, _/_, _%_, _^_, _<_, _≤_}
-use native.Mathlib.Nat.{pow-succ'}
 use native.Mathlib.Decide.{ℕ-discrete}
 use native.Mathlib.Omega.{arith}
 use borrow.Author.Tests.{lt-ltb, le-ltb}
 use lib.Dec.{ltb}
 use lib.ListN.{length, set, length-set}
-use lib.Pow.{pow-add}
 use lib.Seq.{getD-set-same, getD-set-other}
 use Rattle.format.specs.Picture.{writtenBytes}
 use Rattle.format.specs.Report.{counter, counterByte, writtenCounters}
 use Rattle.format.proofs.Choice.{and-both, every-at}
 use Rattle.format.proofs.Picture.{writtenBytes-more}
+use Rattle.format.proofs.ColorTable.{pow-times}
 use Rattle.format.proofs.Report.{counters-same}
-use Rattle.report.specs.Counts.{at, together, sumsFit, Grown, Added}
+use Rattle.report.specs.Counts.{at, sumAt, sumsFit, Summed, Added}
 
--- the first k of xs have grown by g, and the others have not
-pub record Growing (k : ℕ) (g : ℕ → ℕ) (xs ys : List ℕ) : Type 0 where
+-- ys are the sums of g and xs up to k, and xs from there on
+pub record Summing (k : ℕ) (g : ℕ → ℕ) (xs ys : List ℕ) : Type 0 where
   pub full : length ys ≡ length xs
   pub fit : sumsFit k g xs ≡ true
-  pub sums : (j : ℕ) → j < k → at ys j ≡ together g xs j
+  pub sums : (j : ℕ) → j < k → at ys j ≡ sumAt g xs j
   pub kept : (j : ℕ) → k ≤ j → at ys j ≡ at xs j
 
 module _ (g : ℕ → ℕ) (xs : List ℕ) where
-  pub growing-none : Growing 0 g xs xs
-  growing-none = record { full = refl; fit = refl; sums = λ j l. absurd (omega arith); kept = λ j l. refl }
+  pub summing-none : Summing 0 g xs xs
+  summing-none = record { full = refl; fit = refl; sums = λ j l. absurd (omega arith); kept = λ j l. refl }
 
   -- one more, whose sum fits
-  pub growing-more : (k : ℕ) (ys : List ℕ) (held sum : ℕ) → Growing k g xs ys → k < length xs → held ≡ g k → sum ≡ held + at ys k → sum < 2 ^ 64 → Growing (k + 1) g xs (set ys k sum)
-  growing-more k ys held sum h l p q b =
+  pub summing-more : (k : ℕ) (ys : List ℕ) (held sum : ℕ) → Summing k g xs ys → k < length xs → held ≡ g k → sum ≡ held + at ys k → sum < 2 ^ 64 → Summing (k + 1) g xs (set ys k sum)
+  summing-more k ys held sum h l p q b =
       record {
         full = length-set ys k sum ∙ h .full;
         fit = fit;
@@ -39,42 +38,36 @@ module _ (g : ℕ → ℕ) (xs : List ℕ) where
         kept = λ j m. getD-set-other ys k j sum 0 (λ z. omega arith) ∙ h .kept j (omega arith);
       }
     where
-      is : sum ≡ together g xs k
+      is : sum ≡ sumAt g xs k
       is = omega (arith, h .kept k (omega arith))
 
       fit : sumsFit (k + 1) g xs ≡ true
       fit =
           let s : k + 1 ≡ suc k = omega arith in
-          rw s (and-both (ltb (together g xs k) (2 ^ 64)) (sumsFit k g xs) (lt-ltb (together g xs k) (2 ^ 64) (rw (← is) b)) (h .fit))
+          rw s (and-both (ltb (sumAt g xs k) (2 ^ 64)) (sumsFit k g xs) (lt-ltb (sumAt g xs k) (2 ^ 64) (rw (← is) b)) (h .fit))
 
-      sums : (j : ℕ) → j < k + 1 → Dec (j ≡ k) → at (set ys k sum) j ≡ together g xs j
+      sums : (j : ℕ) → j < k + 1 → Dec (j ≡ k) → at (set ys k sum) j ≡ sumAt g xs j
       sums j m (yes z) = let f = h .full in rw (z, getD-set-same ys k sum 0 (omega arith)) is
       sums j m (no z) = getD-set-other ys k j sum 0 z ∙ h .sums j (omega arith)
 
   -- one whose sum does not
-  pub growing-not : (n k : ℕ) (ys zs : List ℕ) (held : ℕ) → Growing k g xs ys → k < n → held ≡ g k → 2 ^ 64 ≤ held + at ys k → Grown n g xs zs false
-  growing-not n k ys zs held h l p b = record { fit = go (sumsFit n g xs) refl; sums = λ e. absurd (true≢false (sym e)) }
+  pub summing-not : (n k : ℕ) (ys zs : List ℕ) (held : ℕ) → Summing k g xs ys → k < n → held ≡ g k → 2 ^ 64 ≤ held + at ys k → Summed n g xs zs false
+  summing-not n k ys zs held h l p b = record { fit = go (sumsFit n g xs) refl; each = λ e. absurd (true≢false (sym e)) }
     where
-      past : ltb (together g xs k) (2 ^ 64) ≡ false
-      past = le-ltb (together g xs k) (2 ^ 64) (omega (arith, h .kept k (omega arith)))
+      past : ltb (sumAt g xs k) (2 ^ 64) ≡ false
+      past = le-ltb (sumAt g xs k) (2 ^ 64) (omega (arith, h .kept k (omega arith)))
 
       go : (b : Bool) → sumsFit n g xs ≡ b → false ≡ b
       go false e = refl
-      go true e = sym past ∙ every-at n (λ j. ltb (together g xs j) (2 ^ 64)) k l e
+      go true e = sym past ∙ every-at n (λ j. ltb (sumAt g xs j) (2 ^ 64)) k l e
 
-  pub growing-done : (n k : ℕ) (ys : List ℕ) → Growing k g xs ys → k ≡ n → Grown n g xs ys true
-  growing-done n k ys h q = rw (← q) (record { fit = sym (h .fit); sums = λ e. h .sums })
+  pub summing-done : (n k : ℕ) (ys : List ℕ) → Summing k g xs ys → k ≡ n → Summed n g xs ys true
+  summing-done n k ys h q = rw (← q) (record { fit = sym (h .fit); each = λ e. h .sums })
 
 -- bytes
 
 pub byte-shift : (x j : ℕ) → x / 2 ^ (8 * j) % 256 ≡ x / 256 ^ j % 256
-byte-shift x j = ap (λ (p : ℕ). x / p % 256) (pow-times j)
-  where
-    pow-times : (k : ℕ) → 2 ^ (8 * k) ≡ 256 ^ k
-    pow-times zero = refl
-    pow-times (suc k) =
-        let e : 8 * suc k ≡ 8 + 8 * k = omega arith in
-        rw (e, pow-add 2 8 (8 * k), pow-times k) (sym (pow-succ' 256 k))
+byte-shift x j = ap (λ (p : ℕ). x / p % 256) (pow-times 8 j)
 
 module _ (g : ℕ → ℕ) (xs : List ℕ) where
   pub bytes-none : xs ≡ writtenBytes 0 (counterByte g) xs
@@ -92,7 +85,7 @@ module _ (g : ℕ → ℕ) (xs : List ℕ) where
 
 -- counts added to counters
 
-module _ (n : ℕ) (counts sums counters : List ℕ) (r : Bool) (h : Grown n (counter counters) counts sums r) where
+module _ (n : ℕ) (counts sums counters : List ℕ) (r : Bool) (h : Summed n (counter counters) counts sums r) where
   pub sums-not : r ≡ false → Added n counts counters 24 counters
   sums-not q =
       let f : sumsFit n (counter counters) counts ≡ false = sym (h .fit) ∙ q in
@@ -101,4 +94,4 @@ module _ (n : ℕ) (counts sums counters : List ℕ) (r : Bool) (h : Grown n (co
   pub sums-put : (ys : List ℕ) → r ≡ true → ys ≡ writtenCounters n (at sums) counters → Added n counts counters 0 ys
   sums-put ys q w =
       let f : sumsFit n (counter counters) counts ≡ true = sym (h .fit) ∙ q in
-      record { answer = rw f; left = w ∙ counters-same n (at sums) (together (counter counters) counts) counters (h .sums q) }
+      record { answer = rw f; left = w ∙ counters-same n (at sums) (sumAt (counter counters) counts) counters (h .each q) }

@@ -33,20 +33,20 @@ pub record Groups (i whole : ℕ) (picture : List ℕ) : Type 0 where
   pub few : whole ≤ 268435456
   pub there : 4 * whole ≤ length picture
 
--- number k of g and of xs together
-abbrev pub together : (ℕ → ℕ) → List ℕ → ℕ → ℕ
-together g xs k = g k + at xs k
+-- what counter k holds and what was counted for it
+abbrev pub sumAt : (ℕ → ℕ) → List ℕ → ℕ → ℕ
+sumAt held counts k = held k + at counts k
 
 -- none of the first n sums passes 2 ^ 64 - 1
 abbrev pub sumsFit : ℕ → (ℕ → ℕ) → List ℕ → Bool
-sumsFit n g xs = every n (λ k. ltb (together g xs k) (2 ^ 64))
+sumsFit n held counts = every n (λ k. ltb (sumAt held counts k) (2 ^ 64))
 
--- ys has the first n sums, where they fit
-pub record Grown (n : ℕ) (g : ℕ → ℕ) (xs ys : List ℕ) (r : Bool) : Type 0 where
-  pub fit : r ≡ sumsFit n g xs
-  pub sums : r ≡ true → (k : ℕ) → k < n → at ys k ≡ together g xs k
+-- whether the first n sums fit, and where they do, the sums
+pub record Summed (n : ℕ) (held : ℕ → ℕ) (counts sums : List ℕ) (fits : Bool) : Type 0 where
+  pub fit : fits ≡ sumsFit n held counts
+  pub each : fits ≡ true → (k : ℕ) → k < n → at sums k ≡ sumAt held counts k
 
--- the answer where counts are added to the first n counters of xs, and the counters ys that are left
-pub record Added (n : ℕ) (counts xs : List ℕ) (r : ℕ) (ys : List ℕ) : Type 0 where
-  pub answer : r ≡ (24 unless sumsFit n (counter xs) counts)
-  pub left : ys ≡ (if accepted r then writtenCounters n (together (counter xs) counts) xs else xs)
+-- the answer where counts are added to the first n counters, and the counters that are left
+pub record Added (n : ℕ) (counts counters : List ℕ) (r : ℕ) (after : List ℕ) : Type 0 where
+  pub answer : r ≡ (24 unless sumsFit n (counter counters) counts)
+  pub left : after ≡ (if accepted r then writtenCounters n (sumAt (counter counters) counts) counters else counters)

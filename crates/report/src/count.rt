@@ -1,5 +1,5 @@
 // How many pixels of a picture are found at each index of a list of colors, or at none. Groups of sixteen pixels of one
-// color are counted at once, since pictures are runs of few colors.
+// color are counted at once.
 use color_table::find::find;
 use color_table::groups::pass;
 use pixel::word::word_at;
@@ -9,7 +9,7 @@ ghost use lib.ListN.{length, set};
 ghost use Rattle.color_table.specs.Hints.{Table};
 ghost use Rattle.report.specs.Counts.{at, Groups, CountedIn};
 
-// n pixels more at index k.
+// n pixels more at index k. A picture has at most 16384 by 16384 pixels, which is 2^28.
 fn add(counts: &mut [u64; 257], k: usize, n: usize)
     requires { ⌜ (k ≤ 256) × (at (now counts) k + n ≤ 268435456) ⌝ }
     ensures { λ _. ⌜ now (counts .exit) ≡ set (now (counts .entry)) k (at (now (counts .entry)) k + n) ⌝ }
@@ -39,7 +39,7 @@ fn count_each(
     }
 }
 
-// The groups from pixel i on that are of its color, and how far they go.
+// The groups from pixel i on that are of its color; returns the pixel after them.
 fn count_same(
     picture: &[u8],
     i: usize,
@@ -60,7 +60,7 @@ fn count_same(
     j
 }
 
-// The same, and the group after them.
+// The same, and the group after them, which is of several.
 fn count_run(
     picture: &[u8],
     i: usize,
@@ -83,6 +83,7 @@ fn count_run(
     j + 16
 }
 
+// No pixel counted: the buffers are named for the contract.
 fn no_counts(picture: &[u8], colors: &[u8], size: usize) -> [u64; 257]
     requires { ⌜ size ≤ 256 ⌝ }
     ensures { λ r. ⌜ CountedIn size (now (colors .entry)) 0 (now (picture .entry)) r ⌝ }

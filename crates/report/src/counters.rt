@@ -4,7 +4,7 @@ ghost use mathlib.Core.Path.{_≡_};
 ghost use Prim.Native.Nat.{_+_, _*_, _/_, _%_, _^_, _<_, _≤_};
 ghost use lib.ListN.{length};
 ghost use Rattle.format.specs.Report.{counter, writtenCounters};
-ghost use Rattle.report.specs.Counts.{at, Grown, Added};
+ghost use Rattle.report.specs.Counts.{at, Summed, Added};
 
 fn counter_at(counters: &[u8], k: usize) -> u64
     requires { ⌜ 8 * k + 8 ≤ length (now counters) ⌝ }
@@ -15,10 +15,10 @@ fn counter_at(counters: &[u8], k: usize) -> u64
     low + 4294967296 * high
 }
 
-// Each of the first n counts grown by its counter; false where a sum would pass 2^64 - 1.
-fn grow(counts: &mut [u64; 257], counters: &[u8], n: usize) -> bool
+// Adds to each of the first n counts what its counter holds; false where a sum would pass 2^64 - 1.
+fn sum_each(counts: &mut [u64; 257], counters: &[u8], n: usize) -> bool
     requires { ⌜ (n ≤ 257) × (8 * n ≤ length (now counters)) × (length (now counts) ≡ 257) ⌝ }
-    ensures { λ r. ⌜ Grown n (counter (now (counters .entry))) (now (counts .entry)) (now (counts .exit)) r ⌝ }
+    ensures { λ r. ⌜ Summed n (counter (now (counters .entry))) (now (counts .entry)) (now (counts .exit)) r ⌝ }
 {
     let mut k = 0;
     while k < n {
@@ -58,7 +58,7 @@ pub fn add_counts(counters: &mut [u8], counts: [u64; 257], n: usize) -> u32
     ensures { λ r. ⌜ Added n counts (now (counters .entry)) r (now (counters .exit)) ⌝ }
 {
     let mut sums = counts;
-    if !grow(&mut sums, counters, n) {
+    if !sum_each(&mut sums, counters, n) {
         return 24;
     }
     put_counters(counters, &sums, n);

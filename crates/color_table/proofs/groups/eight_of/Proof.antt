@@ -6,7 +6,7 @@ use native.Mathlib.Omega.{arith}
 use borrow.Author.Needs.{needs}
 use Rattle.format.specs.Picture.{pixels}
 use Rattle.pixel.specs.Word.{unword}
-use Rattle.color_table.specs.Pack.{EachOf}
+use Rattle.color_table.specs.OneOf.{EachOf}
 use Rattle.color_table.proofs.Index.{each-more}
 use Rattle.color_table.proofs.groups.eight_of.Statement.{statement}
 use Rattle.color_table.proofs.groups.eight_of.Tie as tie

@@ -5,7 +5,7 @@ use native.Mathlib.Omega.{arith}
 use borrow.Author.Tests.{not-false}
 use Rattle.format.specs.Picture.{pixels}
 use Rattle.pixel.specs.Word.{unword}
-use Rattle.color_table.specs.Pack.{EachOf}
+use Rattle.color_table.specs.OneOf.{EachOf}
 use Rattle.color_table.proofs.Index.{each-both, each-next}
 use Rattle.color_table.proofs.groups.pass.Statement.{statement}
 use Rattle.color_table.proofs.groups.pass.Tie as tie

@@ -11,7 +11,7 @@ add-counts-spec =
     (tie.spec
     (λ c κs. search needs)
     (λ c. search needs)
-    (λ c. sums-not _ _ _ _ _ (c .before .grow .ensures) (not-true _ (c .if1 .taken)))
+    (λ c. sums-not _ _ _ _ _ (c .before .sum-each .ensures) (not-true _ (c .if1 .taken)))
     (λ c κs. search needs)
     (λ c. search needs)
-    (λ c. sums-put _ _ _ _ _ (c .before .before .before .before .before .before .grow .ensures) _ (not-false _ (c .before .before .before .before .before .if1 .left)) (c .before .before .put-counters .ensures)))
+    (λ c. sums-put _ _ _ _ _ (c .before .before .before .before .before .before .sum-each .ensures) _ (not-false _ (c .before .before .before .before .before .if1 .left)) (c .before .before .put-counters .ensures)))

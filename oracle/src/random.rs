@@ -44,6 +44,15 @@ impl Xorshift {
         }
     }
 
+    /// What a buffer has beyond what is needed: half of the time nothing, else up to `most` bytes.
+    pub fn beyond(&mut self, most: usize) -> Vec<u8> {
+        let len = match self.below(2) {
+            0 => 0,
+            _ => 1 + self.below(most),
+        };
+        self.bytes(len)
+    }
+
     /// Bytes of one of three sorts: any, small steps, which make ties and odd halves, and the ends
     /// of the ranges, which make overflows.
     pub fn residuals(&mut self, len: usize) -> Vec<u8> {

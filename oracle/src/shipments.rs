@@ -37,7 +37,7 @@ impl Shipment {
     /// A list that is not refused by 23, and counters for all of it. Some maps are refused.
     pub fn any(random: &mut Xorshift, colors: &[[u8; 4]], len: usize) -> Self {
         let mut counters = any_counters(random, colors.len() + 1);
-        counters.extend(beyond(random));
+        counters.extend(random.beyond(20));
         let maps = (0..len).map(|_| Map::any(random, colors)).collect();
         Self {
             colors: colors.as_flattened().to_vec(),
@@ -73,14 +73,14 @@ impl Map {
         let most = random.choose(&[1, 4, 12, 36]);
         let width = 1 + random.below(most);
         let height = 1 + random.below(most.min(9));
-        let seen = any_seen(random, colors);
-        let pixels = any_pixels(random, width * height, &seen);
+        let drawn = any_drawn(random, colors);
+        let pixels = any_pixels(random, width * height, &drawn);
         let mut map = Self::new(width as u32, height as u32, pixels);
         match random.below(16) {
             0 => map.width = random.choose(&[0, 16385, u32::MAX]),
             1 => map.height = random.choose(&[0, 16385, u32::MAX]),
             2 => map.picture.truncate(map.picture.len() - 1),
-            _ => map.picture.extend(beyond(random)),
+            _ => map.picture.extend(random.beyond(20)),
         }
         map
     }
@@ -124,7 +124,7 @@ pub fn distinct(count: usize, mut next: impl FnMut() -> [u8; 4]) -> Vec<[u8; 4]>
 
 /// What a map's pixels are drawn from: the list, the list and others that are near it or in no way
 /// like it, few of each, and others alone.
-fn any_seen(random: &mut Xorshift, colors: &[[u8; 4]]) -> Vec<[u8; 4]> {
+fn any_drawn(random: &mut Xorshift, colors: &[[u8; 4]]) -> Vec<[u8; 4]> {
     let near: Vec<[u8; 4]> = (0..3).map(|_| no_entry(random, colors)).collect();
     let far = [random.pixel(), random.pixel()];
     let few = [random.choose(colors), random.choose(colors)];
@@ -137,12 +137,12 @@ fn any_seen(random: &mut Xorshift, colors: &[[u8; 4]]) -> Vec<[u8; 4]> {
 }
 
 /// Pixel by pixel, or in runs.
-pub fn any_pixels(random: &mut Xorshift, len: usize, seen: &[[u8; 4]]) -> Vec<[u8; 4]> {
+pub fn any_pixels(random: &mut Xorshift, len: usize, drawn: &[[u8; 4]]) -> Vec<[u8; 4]> {
     let in_runs = random.below(2) == 0;
     let mut pixels = Vec::with_capacity(len);
     while pixels.len() < len {
         let run = if in_runs { random.choose(&RUNS) } else { 1 };
-        let color = random.choose(seen);
+        let color = random.choose(drawn);
         pixels.extend(std::iter::repeat_n(color, run.min(len - pixels.len())));
     }
     pixels
@@ -162,13 +162,4 @@ fn any_counters(random: &mut Xorshift, count: usize) -> Vec<u8> {
         numbers[random.below(count)] = u64::MAX - random.below(200) as u64;
     }
     numbers.into_iter().flat_map(u64::to_le_bytes).collect()
-}
-
-/// Half of the buffers are longer than needed.
-fn beyond(random: &mut Xorshift) -> Vec<u8> {
-    let len = match random.below(2) {
-        0 => 0,
-        _ => 1 + random.below(20),
-    };
-    random.bytes(len)
 }

@@ -50,7 +50,7 @@ fn unadjust(color_map: &mut [u8])
 }
 
 // Refusal 10: the length of a color map is 0, over 1024 or not a multiple of 4.
-pub fn refused(length: usize) -> bool
+pub fn refused_length(length: usize) -> bool
     ensures { λ r. ⌜ r ≡ refusedLength length ⌝ }
 {
     if length == 0 {
@@ -67,7 +67,7 @@ pub fn adjust_color_map(color_map: &mut [u8]) -> u32
     ensures { λ r. ⌜ r ≡ colorMapAnswer (now («color_map» .entry)) ⌝ }
     ensures { λ r. ⌜ now («color_map» .exit) ≡ adjustColorMap (now («color_map» .entry)) ⌝ }
 {
-    if refused(color_map.len()) {
+    if refused_length(color_map.len()) {
         return 10;
     }
     adjust(color_map);
@@ -78,7 +78,7 @@ pub fn unadjust_color_map(color_map: &mut [u8]) -> u32
     ensures { λ r. ⌜ r ≡ colorMapAnswer (now («color_map» .entry)) ⌝ }
     ensures { λ r. ⌜ now («color_map» .exit) ≡ unadjustColorMap (now («color_map» .entry)) ⌝ }
 {
-    if refused(color_map.len()) {
+    if refused_length(color_map.len()) {
         return 10;
     }
     unadjust(color_map);

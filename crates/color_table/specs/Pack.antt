@@ -1,5 +1,5 @@
 -- The records that packing a row writes.
-use mathlib.Core.Bool.{Bool, true, _||_}
+use mathlib.Core.Bool.{true}
 use mathlib.Core.List.{List}
 use mathlib.Core.Path.{_≡_}
 use Prim.Native.Nat.{ℕ, _+_, _-_, _*_, _/_, _<_, _≤_}
@@ -7,7 +7,7 @@ use lib.Dec.{ltb}
 use lib.ListN.{length}
 use Rattle.format.specs.declared.Pixel.{Pixel}
 use Rattle.format.specs.Choice.{if_then_else_}
-use Rattle.format.specs.Pixel.{pixel, equal}
+use Rattle.format.specs.Pixel.{pixel}
 use Rattle.format.specs.Picture.{Picture, pixels}
 use Rattle.format.specs.ColorTable.{perPixel, range, indexOf, hasEntry, haveEntries, digits, packed}
 use Rattle.pixel.specs.Cells.{pixelCells, run, given}

@@ -54,7 +54,7 @@ pub fn find(entries: &[u8], size: usize, hints: &[u8], w: u32) -> usize
     i
 }
 
-// Whether w's slot holds its entry: with no branch.
+// Whether the first entry of w's slot equals w: with no branch.
 pub fn first_holds(entries: &[u8], size: usize, hints: &[u8], w: u32) -> bool
     requires { ⌜ Table size (now entries) (now hints) ⌝ }
     ensures { λ r. ⌜ (r ≡ true → hasEntry size (pixels (now (entries .entry))) (unword w) ≡ true) ⌝ }
@@ -69,8 +69,8 @@ fn no_hints(entries: &[u8], size: usize) -> [u8; 4352]
     [0u8; 4352]
 }
 
-// Where entries are looked up: made once a picture. From the last entry down, so that a slot holds its lowest index, and
-// no link leads to entry 0: a link of 0 is none.
+// Where entries are looked up: made once a picture. From the last entry down, so that a slot holds its lowest index,
+// and no link leads to entry 0: a link of 0 is none.
 pub fn hints_of(entries: &[u8], size: usize) -> [u8; 4352]
     requires { ⌜ (1 ≤ size) × (size ≤ 256) × (4 * size ≤ length (now entries)) ⌝ }
     ensures { λ r. ⌜ Hints size (pixels (now (entries .entry))) r ⌝ }

@@ -2,7 +2,7 @@
 -- boundary and in its order, and lists of calls.
 use mathlib.Core.List.{List, [], _∷_, _++_, map}
 use mathlib.Core.Path.{_≡_, refl}
-use Prim.Native.Nat.{ℕ, _+_}
+use Prim.Native.Nat.{ℕ}
 use Rattle.format.specs.Choice.{bit}
 use Rattle.format.specs.Indices.{union}
 use Rattle.format.specs.Picture.{pixels, written, writtenBytes}
@@ -12,7 +12,7 @@ use Rattle.format.specs.Report.{pixelsOf, pixelsOfNone, added, counter, 
 use Rattle.format.specs.Promises.{ofColor, ofNone, allPixels, taken}
 use Rattle.format.proofs.Worked.{Line, _is_, bytes, inRed, reds}
 
--- counters of one byte each; one with all eight bytes 255, and 2 ^ 64 - 2
+-- counters whose numbers are below 256; one with all eight bytes 255, and 2 ^ 64 - 2
 abbrev counts : List ℕ → List ℕ
 counts vs = union (λ v. v ∷ bytes 7) vs
 
@@ -22,7 +22,10 @@ full = writtenBytes 8 (λ i. 255) []
 abbrev nearlyFull : List ℕ
 nearlyFull = 254 ∷ writtenBytes 7 (λ i. 255) []
 
--- a picture of 3 by 1 with the reds 1, 2 and 1
+-- the reds 1 and 2, and a picture of 3 by 1 with the reds 1, 2 and 1
+abbrev two : List ℕ
+two = inRed (1 ∷ 2 ∷ [])
+
 abbrev three : List ℕ
 three = inRed (1 ∷ 2 ∷ 1 ∷ [])
 
@@ -53,16 +56,13 @@ shipment =
     ∷ of 1 1 (inRed (8 ∷ []))
     ∷ []
 
-abbrev two : List ℕ
-two = inRed (1 ∷ 2 ∷ [])
-
 abbrev start : List ℕ
 start = counts (5 ∷ 255 ∷ []) ++ nearlyFull ++ (6 ∷ [])
 
 abbrev pub worked : List Line
 worked =
     -- one counter for each color, in the list's order, then one for all others
-    (inThree (inRed (1 ∷ 2 ∷ [])) (bytes 24) is counts (2 ∷ 1 ∷ 0 ∷ []))
+    (inThree two (bytes 24) is counts (2 ∷ 1 ∷ 0 ∷ []))
     ∷ (inThree (inRed (2 ∷ 1 ∷ [])) (bytes 24) is counts (1 ∷ 2 ∷ 0 ∷ []))
     ∷ (inThree (inRed (2 ∷ [])) (bytes 16) is counts (1 ∷ 2 ∷ []))
     ∷ (inThree (inRed (9 ∷ 2 ∷ 8 ∷ [])) (bytes 32) is counts (0 ∷ 1 ∷ 0 ∷ 2 ∷ []))
@@ -75,7 +75,7 @@ worked =
     (1 ∷ 2 ∷ 3 ∷ 4 ∷ []) (bytes 16)
     is counts (1 ∷ 4 ∷ []))
     -- a call adds; counters are little-endian, of eight bytes each
-    ∷ (inThree (inRed (1 ∷ 2 ∷ [])) (counts (10 ∷ 20 ∷ 30 ∷ [])) is counts (12 ∷ 21 ∷ 30 ∷ []))
+    ∷ (inThree two (counts (10 ∷ 20 ∷ 30 ∷ [])) is counts (12 ∷ 21 ∷ 30 ∷ []))
     ∷ (single (counts (255 ∷ 0 ∷ [])) is 0 ∷ 1 ∷ bytes 6 ++ bytes 8)
     ∷ (single (255 ∷ 255 ∷ 255 ∷ 255 ∷ 255 ∷ 255 ∷ 255 ∷ 7 ∷ bytes 8) is bytes 7 ++ 8 ∷ bytes 8)
     ∷ (single (1 ∷ 2 ∷ 3 ∷ 4 ∷ 5 ∷ 6 ∷ 7 ∷ 8 ∷ 11 ∷ 12 ∷ 13 ∷ 14 ∷ 15 ∷ 16 ∷ 17 ∷ 18 ∷ [])
@@ -118,10 +118,10 @@ worked =
     ∷ singleAnswer (inRed (1 ∷ [])) (bytes 4) (full ++ nearlyFull)
     ∷ singleAnswer (inRed (1 ∷ [])) (bytes 4) (bytes 8 ++ full) ∷ []
     is 0 ∷ 24 ∷ 0 ∷ 24 ∷ [])
-    ∷ (reportAnswer 3 1 three (inRed (1 ∷ 2 ∷ [])) (bytes 8 ++ full ++ bytes 8)
-    ∷ reportAnswer 3 1 three (inRed (1 ∷ 2 ∷ [])) (nearlyFull ++ bytes 16) ∷ []
+    ∷ (reportAnswer 3 1 three two (bytes 8 ++ full ++ bytes 8)
+    ∷ reportAnswer 3 1 three two (nearlyFull ++ bytes 16) ∷ []
     is 24 ∷ 24 ∷ [])
-    ∷ (inThree (inRed (1 ∷ 2 ∷ [])) (bytes 8 ++ full ++ bytes 8) is bytes 8 ++ full ++ bytes 8)
+    ∷ (inThree two (bytes 8 ++ full ++ bytes 8) is bytes 8 ++ full ++ bytes 8)
     -- a list: refused calls between accepted ones
     ∷ (answersTo (report two) start shipment is 0 ∷ 8 ∷ 0 ∷ 1 ∷ 24 ∷ [])
     ∷ (answersTo (report (bytes 8)) start shipment is 23 ∷ 23 ∷ 23 ∷ 1 ∷ 23 ∷ [])

@@ -1,5 +1,5 @@
--- What RFC 9649 and document 01 say of pixels, as definitions that compute. They need no code to be read: `Pixel` is a
--- record of four numbers.
+-- What RFC 9649 and documents 01 and 02 say of pixels, as definitions that compute. They need no code to be read:
+-- `Pixel` is a record of four numbers.
 pub mod Choice
 pub mod Indices
 pub mod Byte

@@ -1,4 +1,5 @@
--- What is promised: the demands of document 00, on the bytes of the calls. They are proved in proofs/Demands.antt.
+-- What is promised: the demands of document 00, and what document 02 (i) asks of reports, on the bytes of the calls. It
+-- is proved in proofs/Demands.antt.
 use mathlib.Core.Bool.{true, false, _&&_}
 use mathlib.Core.List.{List}
 use mathlib.Core.Logic.{_⊎_, _↔_}
@@ -145,17 +146,17 @@ module _ (w h : ℕ) (cs ds : List ℕ) where
 
 -- demand 1, of the color map's calls
 abbrev pub ColorMapAnswers : Type 0
-ColorMapAnswers = (map : List ℕ) → (colorMapAnswer map ≡ 0) ⊎ (colorMapAnswer map ≡ 10)
+ColorMapAnswers = (xs : List ℕ) → (colorMapAnswer xs ≡ 0) ⊎ (colorMapAnswer xs ≡ 10)
 
 -- each of the two calls undoes the other, on every map of bytes
 abbrev pub ColorMapUndone : Type 0
-ColorMapUndone = (map : List ℕ) → AreBytes map
-    → (unadjustColorMap (adjustColorMap map) ≡ map) × (adjustColorMap (unadjustColorMap map) ≡ map)
+ColorMapUndone = (xs : List ℕ) → AreBytes xs
+    → (unadjustColorMap (adjustColorMap xs) ≡ xs) × (adjustColorMap (unadjustColorMap xs) ≡ xs)
 
 abbrev pub ColorMapRefused : Type 0
-ColorMapRefused = (map : List ℕ)
-    → accepted (colorMapAnswer map) ≡ false
-    → (adjustColorMap map ≡ map) × (unadjustColorMap map ≡ map)
+ColorMapRefused = (xs : List ℕ)
+    → accepted (colorMapAnswer xs) ≡ false
+    → (adjustColorMap xs ≡ xs) × (unadjustColorMap xs ≡ xs)
 
 -- how many pixels a map has
 abbrev pub allPixels : Map → ℕ
@@ -205,8 +206,10 @@ module _ (colors : List ℕ) where
     -- pixels of none of the colors, all together by all pixels; bytes beyond are those of the start; and whichever call
     -- is next is accepted exactly if no refusal applies
     pub record AfterReports : Type 0 where
-      pub ofEach : (k : ℕ) → k < colorCount colors → counter leftCounters k ≡ counter counters k + total (ofColor k) taken
-      pub ofOthers : counter leftCounters (colorCount colors) ≡ counter counters (colorCount colors) + total ofNone taken
+      pub ofEach : (k : ℕ) → k < colorCount colors
+          → counter leftCounters k ≡ counter counters k + total (ofColor k) taken
+      pub ofOthers : counter leftCounters (colorCount colors)
+          ≡ counter counters (colorCount colors) + total ofNone taken
       pub together : sum (counterCount colors) (counter leftCounters)
           ≡ sum (counterCount colors) (counter counters) + total allPixels taken
       pub beyond : drop (8 * counterCount colors) leftCounters ≡ drop (8 * counterCount colors) counters

@@ -19,14 +19,14 @@ use Rattle.format.proofs.Choice.{and-right, and-both, and-false-right, every-sa
 use Rattle.format.proofs.ColorMap.{taken-long}
 use Rattle.format.proofs.Report.{added-found, counters-same}
 use Rattle.format.proofs.Reporting.{report-refused}
-use Rattle.report.specs.Counts.{Counted, sumAt, sumsFit, Added}
+use Rattle.report.specs.Counts.{mostPixels, Counted, sumAt, sumsFit, AddedTo}
 use Rattle.report.specs.Reported.{Reported}
 
 in-range : (x : ℕ) → 1 ≤ x → x ≤ 16384 → inRange x ≡ true
 in-range x a b = and-both (leb 1 x) (leb x 16384) (le-leb 1 x a) (le-leb x 16384 b)
 
--- a picture's pixels are at most 2 ^ 28
-pub area : (w h : ℕ) → Sized w h → h * w ≤ 268435456
+-- no picture has more pixels
+pub area : (w h : ℕ) → Sized w h → h * w ≤ mostPixels
 area w h s = mul-le-mul (s .low) (s .narrow)
 
 -- a list that is as long as a color map has 1 to 256 colors
@@ -80,7 +80,7 @@ module _ (w h : ℕ) (picture colors counters : List ℕ) where
 
       pub counted : (r : ℕ) (counts ys : List ℕ) → 8 * (colorCount colors + 1) ≤ length counters → 4 * (h * w) ≤ length picture
           → Counted (colorCount colors) (pixels colors) (h * w) (pixels picture) counts
-          → Added (colorCount colors + 1) counts counters r ys
+          → AddedTo (colorCount colors + 1) counts counters r ys
           → Reported w h picture colors counters r ys
       unfolding colorList reportAnswer reportCounters
       counted r counts ys room there c a = record { answer = answer; left = a .left ∙ left }

@@ -11,15 +11,13 @@ use lib.ListN.{set, length-set, replicate, getD-replicate, length-replicate}
 use lib.Seq.{getD-set-same, getD-set-other}
 use Rattle.format.specs.Indices.{howMany}
 use Rattle.format.specs.declared.Pixel.{Pixel}
-use Rattle.format.specs.Pixel.{equal}
 use Rattle.format.specs.Picture.{Picture}
 use Rattle.format.specs.ColorTable.{indexOf}
 use Rattle.format.proofs.Indices.{howMany-most, howMany-alike}
-use Rattle.format.proofs.Pixels.{equal-true, equal-refl}
 use Rattle.format.proofs.ColorTable.{index-most}
 use Rattle.color_table.specs.OneOf.{EachOf}
 use Rattle.color_table.proofs.Index.{each-same}
-use Rattle.report.specs.Counts.{at, Counted}
+use Rattle.report.specs.Counts.{at, mostPixels, Counted}
 
 -- counts
 
@@ -28,8 +26,8 @@ module _ (m : ℕ) (e f : Picture) where
   counted-none l = record { full = length-replicate {A = ℕ} 257 0; found = λ k b. getD-replicate 257 k 0 0 (omega arith) }
 
   -- a pixel's index, and room for n pixels more there
-  pub counted-room : (i n k : ℕ) (v : Pixel) (counts : List ℕ) → Counted m e i f counts → m ≤ 256 → k ≡ indexOf m e v → i + n ≤ 268435456
-      → (k ≤ 256) × (at counts k + n ≤ 268435456)
+  pub counted-room : (i n k : ℕ) (v : Pixel) (counts : List ℕ) → Counted m e i f counts → m ≤ 256 → k ≡ indexOf m e v → i + n ≤ mostPixels
+      → (k ≤ 256) × (at counts k + n ≤ mostPixels)
   counted-room i n k v counts h b p l =
       let here : k ≤ m = rw p (index-most m e v) in
       let q = h .found k here in

@@ -2,7 +2,7 @@
 use mathlib.Core.Bool.{Bool, true, false, true≢false}
 use mathlib.Core.List.{List}
 use mathlib.Core.Path.{_≡_, refl, sym, ap, _∙_}
-use Prim.Native.Nat.{ℕ, zero, suc, _+_, _*_, _/_, _%_, _^_, _<_, _≤_}
+use Prim.Native.Nat.{ℕ, suc, _+_, _*_, _/_, _%_, _^_, _<_, _≤_}
 use native.Mathlib.Decide.{ℕ-discrete}
 use native.Mathlib.Omega.{arith}
 use borrow.Author.Tests.{lt-ltb, le-ltb}
@@ -15,7 +15,7 @@ use Rattle.format.proofs.Choice.{and-both, every-at}
 use Rattle.format.proofs.Picture.{writtenBytes-more}
 use Rattle.format.proofs.ColorTable.{pow-times}
 use Rattle.format.proofs.Report.{counters-same}
-use Rattle.report.specs.Counts.{at, sumAt, sumsFit, Summed, Added}
+use Rattle.report.specs.Counts.{at, sumAt, sumsFit, Summed, AddedTo}
 
 -- ys are the sums of g and xs up to k, and xs from there on
 pub record Summing (k : ℕ) (g : ℕ → ℕ) (xs ys : List ℕ) : Type 0 where
@@ -86,12 +86,12 @@ module _ (g : ℕ → ℕ) (xs : List ℕ) where
 -- counts added to counters
 
 module _ (n : ℕ) (counts sums counters : List ℕ) (r : Bool) (h : Summed n (counter counters) counts sums r) where
-  pub sums-not : r ≡ false → Added n counts counters 24 counters
+  pub sums-not : r ≡ false → AddedTo n counts counters 24 counters
   sums-not q =
       let f : sumsFit n (counter counters) counts ≡ false = sym (h .fit) ∙ q in
       record { answer = rw f; left = refl }
 
-  pub sums-put : (ys : List ℕ) → r ≡ true → ys ≡ writtenCounters n (at sums) counters → Added n counts counters 0 ys
+  pub sums-put : (ys : List ℕ) → r ≡ true → ys ≡ writtenCounters n (at sums) counters → AddedTo n counts counters 0 ys
   sums-put ys q w =
       let f : sumsFit n (counter counters) counts ≡ true = sym (h .fit) ∙ q in
       record { answer = rw f; left = w ∙ counters-same n (at sums) (sumAt (counter counters) counts) counters (h .each q) }

@@ -16,6 +16,10 @@ use Rattle.format.specs.Report.{counter, writtenCounters}
 abbrev pub at : List ℕ → ℕ → ℕ
 at xs k = getD xs k 0
 
+-- 16384 × 16384
+abbrev pub mostPixels : ℕ
+mostPixels = 268435456
+
 -- how many of the first i pixels of f are found at each of m colors, and at none of them, which is index m
 pub record Counted (m : ℕ) (e : Picture) (i : ℕ) (f : Picture) (counts : List ℕ) : Type 0 where
   pub full : length counts ≡ 257
@@ -30,7 +34,7 @@ pub record Groups (i whole : ℕ) (picture : List ℕ) : Type 0 where
   pub start : i % 16 ≡ 0
   pub end : whole % 16 ≡ 0
   pub more : i < whole
-  pub few : whole ≤ 268435456
+  pub few : whole ≤ mostPixels
   pub there : 4 * whole ≤ length picture
 
 -- what counter k holds and what was counted for it
@@ -47,6 +51,6 @@ pub record Summed (n : ℕ) (held : ℕ → ℕ) (counts sums : List ℕ) (fits 
   pub each : fits ≡ true → (k : ℕ) → k < n → at sums k ≡ sumAt held counts k
 
 -- the answer where counts are added to the first n counters, and the counters that are left
-pub record Added (n : ℕ) (counts counters : List ℕ) (r : ℕ) (after : List ℕ) : Type 0 where
+pub record AddedTo (n : ℕ) (counts counters : List ℕ) (r : ℕ) (after : List ℕ) : Type 0 where
   pub answer : r ≡ (24 unless sumsFit n (counter counters) counts)
   pub left : after ≡ (if accepted r then writtenCounters n (sumAt (counter counters) counts) counters else counters)

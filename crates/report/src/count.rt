@@ -7,11 +7,11 @@ ghost use mathlib.Core.Path.{_≡_};
 ghost use Prim.Native.Nat.{_+_, _*_, _%_, _<_, _≤_};
 ghost use lib.ListN.{length, set};
 ghost use Rattle.color_table.specs.Hints.{Table};
-ghost use Rattle.report.specs.Counts.{at, Groups, CountedIn};
+ghost use Rattle.report.specs.Counts.{at, mostPixels, Groups, CountedIn};
 
-// n pixels more at index k. A picture has at most 16384 by 16384 pixels, which is 2^28.
+// n pixels more at index k.
 fn add(counts: &mut [u64; 257], k: usize, n: usize)
-    requires { ⌜ (k ≤ 256) × (at (now counts) k + n ≤ 268435456) ⌝ }
+    requires { ⌜ (k ≤ 256) × (at (now counts) k + n ≤ mostPixels) ⌝ }
     ensures { λ _. ⌜ now (counts .exit) ≡ set (now (counts .entry)) k (at (now (counts .entry)) k + n) ⌝ }
 {
     counts[k] = counts[k] + n as u64;
@@ -28,7 +28,7 @@ fn count_each(
     counts: &mut [u64; 257],
 )
     requires { ⌜ Table size (now colors) (now hints) ⌝ }
-    requires { ⌜ (from ≤ to) × (to ≤ 268435456) × (4 * to ≤ length (now picture)) ⌝ }
+    requires { ⌜ (from ≤ to) × (to ≤ mostPixels) × (4 * to ≤ length (now picture)) ⌝ }
     requires { ⌜ CountedIn size (now colors) from (now picture) (now counts) ⌝ }
     ensures { λ _. ⌜ CountedIn size (now (colors .entry)) to (now (picture .entry)) (now (counts .exit)) ⌝ }
 {
@@ -100,7 +100,7 @@ pub fn count_pixels(
     hints: &[u8],
 ) -> [u64; 257]
     requires { ⌜ Table size (now colors) (now hints) ⌝ }
-    requires { ⌜ (count ≤ 268435456) × (4 * count ≤ length (now picture)) ⌝ }
+    requires { ⌜ (count ≤ mostPixels) × (4 * count ≤ length (now picture)) ⌝ }
     ensures { λ r. ⌜ CountedIn size (now (colors .entry)) count (now (picture .entry)) r ⌝ }
 {
     let mut counts = no_counts(picture, colors, size);

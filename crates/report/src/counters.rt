@@ -4,7 +4,7 @@ ghost use mathlib.Core.Path.{_≡_};
 ghost use Prim.Native.Nat.{_+_, _*_, _/_, _%_, _^_, _<_, _≤_};
 ghost use lib.ListN.{length};
 ghost use Rattle.format.specs.Report.{counter, writtenCounters};
-ghost use Rattle.report.specs.Counts.{at, Summed, Added};
+ghost use Rattle.report.specs.Counts.{at, Summed, AddedTo};
 
 fn counter_at(counters: &[u8], k: usize) -> u64
     requires { ⌜ 8 * k + 8 ≤ length (now counters) ⌝ }
@@ -55,7 +55,7 @@ fn put_counters(counters: &mut [u8], numbers: &[u64; 257], n: usize)
 // Test 24, then the counters: all sums are known before the first byte is written.
 pub fn add_counts(counters: &mut [u8], counts: [u64; 257], n: usize) -> u32
     requires { ⌜ (n ≤ 257) × (8 * n ≤ length (now counters)) × (length counts ≡ 257) ⌝ }
-    ensures { λ r. ⌜ Added n counts (now (counters .entry)) r (now (counters .exit)) ⌝ }
+    ensures { λ r. ⌜ AddedTo n counts (now (counters .entry)) r (now (counters .exit)) ⌝ }
 {
     let mut sums = counts;
     if !sum_each(&mut sums, counters, n) {

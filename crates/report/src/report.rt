@@ -3,7 +3,7 @@ use crate::colors::distinct;
 use crate::count::count_pixels;
 use crate::counters::add_counts;
 use chain::in_range;
-use color_map::refused;
+use color_map::refused_length;
 use color_table::find::hints_of;
 ghost use mathlib.Core.Path.{_≡_};
 ghost use Rattle.format.specs.Sizes.{Sized};
@@ -46,7 +46,7 @@ fn report_sized(
     ensures { λ r. ⌜ Reported width height (now (picture .entry)) (now (colors .entry)) (now (counters .entry)) r
         (now (counters .exit)) ⌝ }
 {
-    if refused(colors.len()) {
+    if refused_length(colors.len()) {
         return 23;
     }
     let size = colors.len() / 4;

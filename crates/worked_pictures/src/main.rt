@@ -1,5 +1,5 @@
-// The worked pictures of documents 01 and 02 and of the format's text, run through the exported calls: a line for each
-// call, with its number and the bytes that came out.
+// The worked pictures of document 01 and of the format's text, and reports worked out from document 02, run through the
+// exported calls: a line for each call, with its number and the bytes that came out.
 mod calls;
 mod chains;
 mod color_pictures;

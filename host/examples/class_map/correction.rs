@@ -16,7 +16,7 @@ pub fn show(chain: Chain, picture: Picture) -> Result<Picture, Box<dyn Error>> {
 
     match map.retouch(point, NOT_IN_THE_TABLE) {
         Err(error) if error.refusal() == Some(Refusal::NoEntryForRetouch) => {
-            println!("greyed out {NOT_IN_THE_TABLE} at {point}\n           {error}");
+            println!("grayed out {NOT_IN_THE_TABLE} at {point}\n           {error}");
         }
         answer => return Err(format!("{NOT_IN_THE_TABLE} was not refused: {answer:?}").into()),
     }

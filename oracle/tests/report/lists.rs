@@ -48,8 +48,8 @@ fn long_sides() {
         let mut shipment = Shipment::any(&mut compared.random, &colors, 0);
         let other = no_entry(&mut compared.random, &colors);
         let all = [colors.as_slice(), &[other]].concat();
-        for seen in [&all[..], &all[..1], &all[count..]] {
-            let map = |&sides| map_of(&mut compared, sides, seen);
+        for drawn in [&all[..], &all[..1], &all[count..]] {
+            let map = |&sides| map_of(&mut compared, sides, drawn);
             shipment.maps.extend(LONG.iter().map(map));
         }
         compared.list(&shipment);
@@ -71,8 +71,8 @@ fn largest_map() {
     compared.finish(&[0]);
 }
 
-fn map_of(compared: &mut Compared, (width, height): (u32, u32), seen: &[[u8; 4]]) -> Map {
+fn map_of(compared: &mut Compared, (width, height): (u32, u32), drawn: &[[u8; 4]]) -> Map {
     let len = (width * height) as usize;
-    let pixels = any_pixels(&mut compared.random, len, seen);
+    let pixels = any_pixels(&mut compared.random, len, drawn);
     Map::new(width, height, pixels)
 }

@@ -131,12 +131,7 @@ impl Compared {
         self.classes.saw(class);
     }
 
-    /// Half of the buffers are longer than needed.
     pub fn beyond(&mut self) -> Vec<u8> {
-        let len = match self.random.below(2) {
-            0 => 0,
-            _ => 1 + self.random.below(70),
-        };
-        self.random.bytes(len)
+        self.random.beyond(70)
     }
 }

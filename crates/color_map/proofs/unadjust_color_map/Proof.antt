@@ -12,9 +12,9 @@ unadjust-color-map-spec =
     tie.close
     (tie.spec
     (λ c κs. search needs)
-    (λ c. rw (sym (c .before .refused .ensures) ∙ c .if1 .taken) (refl, refl))
-    (λ c κs. taken-long _ (sym (c .before .before .refused .ensures) ∙ c .before .if1 .left) .0)
+    (λ c. rw (sym (c .before .refused-length .ensures) ∙ c .if1 .taken) (refl, refl))
+    (λ c κs. taken-long _ (sym (c .before .before .refused-length .ensures) ∙ c .before .if1 .left) .0)
     (λ c. search needs)
     (λ c.
-    rw (sym (c .before .before .before .before .before .refused .ensures) ∙ c .before .before .before .before .if1 .left)
+    rw (sym (c .before .before .before .before .before .refused-length .ensures) ∙ c .before .before .before .before .if1 .left)
     (refl, c .before .before .unadjust .ensures)))

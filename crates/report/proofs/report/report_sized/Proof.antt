@@ -12,16 +12,16 @@ report-sized-spec =
     tie.close
     (tie.spec
     (λ c κs. search needs)
-    (λ c. length-refused _ _ _ _ _ (c .before .before .before .before .before .pre) (sym (c .before .refused .ensures) ∙ c .if1 .taken))
-    (λ c κs. list-sizes (length (c .before .before .before .before .before .args .colors .now)) (sym (c .before .refused .ensures) ∙ c .if1 .left))
+    (λ c. length-refused _ _ _ _ _ (c .before .before .before .before .before .pre) (sym (c .before .refused-length .ensures) ∙ c .if1 .taken))
+    (λ c κs. list-sizes (length (c .before .before .before .before .before .args .colors .now)) (sym (c .before .refused-length .ensures) ∙ c .if1 .left))
     (λ c. search needs)
     (λ c κs.
-    let l = list-sizes (length (c .before .before .before .before .before .before .before .args .colors .now)) (sym (c .before .before .before .refused .ensures) ∙ c .before .before .if1 .left) in
+    let l = list-sizes (length (c .before .before .before .before .before .before .before .args .colors .now)) (sym (c .before .before .before .refused-length .ensures) ∙ c .before .before .if1 .left) in
     record { some = l .0; most = l .1; there = l .2; hinted = c .before .hints-of .ensures })
     (λ c. color-refused _ _ _ _ _ (c .before .before .before .before .before .before .before .before .before .pre) (sym (c .before .distinct .ensures) ∙ not-true _ (c .if2 .taken)))
     (λ c. search needs)
     (λ c κs.
-    let e = sym (c .before .before .before .before .before .before .before .refused .ensures) ∙ c .before .before .before .before .before .before .if1 .left in
+    let e = sym (c .before .before .before .before .before .before .before .refused-length .ensures) ∙ c .before .before .before .before .before .before .if1 .left in
     let l = list-sizes (length (c .before .before .before .before .before .before .before .before .before .before .before .args .colors .now)) e in (
       c .before .before .before .before .before .before .before .before .before .before .before .pre,
       record {

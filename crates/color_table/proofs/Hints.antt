@@ -13,7 +13,7 @@ use Rattle.format.specs.Picture.{Picture, byteAt}
 use Rattle.format.specs.ColorTable.{indexOf}
 use Rattle.format.proofs.Pixels.{equal-true, equal-refl}
 use Rattle.format.proofs.ColorTable.{index-is, index-none}
-use Rattle.color_table.specs.Hints.{slotOf, slot, link, Toward, Linked, Hints}
+use Rattle.color_table.specs.Hints.{slotOf, inSlot, link, Toward, Linked, Hints}
 
 pub slot-below : (v : Pixel) → slotOf v < 4096
 unfolding slotOf
@@ -45,29 +45,29 @@ module _ (a size : ℕ) (e : Picture) (hints : List ℕ) (h : Linked (a + 1) siz
   s = slotOf (e a)
 
   abbrev more : List ℕ
-  more = set (set hints (4096 + a) (slot hints s)) s a
+  more = set (set hints (4096 + a) (inSlot hints s)) s a
 
   full : length more ≡ 4352
-  full = length-set (set hints (4096 + a) (slot hints s)) s a ∙ length-set hints (4096 + a) (slot hints s) ∙ h .full
+  full = length-set (set hints (4096 + a) (inSlot hints s)) s a ∙ length-set hints (4096 + a) (inSlot hints s) ∙ h .full
 
-  slot-own : slot more s ≡ a
+  slot-own : inSlot more s ≡ a
   slot-own =
       let b = slot-below (e a) in
-      let f = length-set hints (4096 + a) (slot hints s) ∙ h .full in
-      getD-set-same (set hints (4096 + a) (slot hints s)) s a 0 (omega arith)
+      let f = length-set hints (4096 + a) (inSlot hints s) ∙ h .full in
+      getD-set-same (set hints (4096 + a) (inSlot hints s)) s a 0 (omega arith)
 
   other : (i : ℕ) → (i ≡ s → ⊥) → (i ≡ 4096 + a → ⊥) → byteAt more i ≡ byteAt hints i
-  other i n k = getD-set-other (set hints (4096 + a) (slot hints s)) s i a 0 n ∙ getD-set-other hints (4096 + a) i (slot hints s) 0 k
+  other i n k = getD-set-other (set hints (4096 + a) (inSlot hints s)) s i a 0 n ∙ getD-set-other hints (4096 + a) i (inSlot hints s) 0 k
 
-  slot-other : (t : ℕ) → t < 4096 → (t ≡ s → ⊥) → slot more t ≡ slot hints t
+  slot-other : (t : ℕ) → t < 4096 → (t ≡ s → ⊥) → inSlot more t ≡ inSlot hints t
   slot-other t u n = other t n (λ p. omega arith)
 
-  link-own : link more a ≡ slot hints s
+  link-own : link more a ≡ inSlot hints s
   link-own =
       let b = slot-below (e a) in
       let f = h .full in
-      getD-set-other (set hints (4096 + a) (slot hints s)) s (4096 + a) a 0 (λ p. omega arith)
-      ∙ getD-set-same hints (4096 + a) (slot hints s) 0 (omega arith)
+      getD-set-other (set hints (4096 + a) (inSlot hints s)) s (4096 + a) a 0 (λ p. omega arith)
+      ∙ getD-set-same hints (4096 + a) (inSlot hints s) 0 (omega arith)
 
   link-other : (i : ℕ) → (i ≡ a → ⊥) → link more i ≡ link hints i
   link-other i n = let b = slot-below (e a) in other (4096 + i) (λ p. omega arith) (λ p. n (omega arith))
@@ -80,10 +80,10 @@ module _ (a size : ℕ) (e : Picture) (hints : List ℕ) (h : Linked (a + 1) siz
       go (no n) (yes p) = rw (p, link-own) (h .below s)
       go (no n) (no k) = rw (other i n k) (h .below i)
 
-  first : (j : ℕ) → a ≤ j → j < size → Toward e a (slot more (slotOf (e j))) j
+  first : (j : ℕ) → a ≤ j → j < size → Toward e a (inSlot more (slotOf (e j))) j
   first j b c = go (ℕ-discrete (slotOf (e j)) s) (ℕ-discrete j a)
     where
-      go : Dec (slotOf (e j) ≡ s) → Dec (j ≡ a) → Toward e a (slot more (slotOf (e j))) j
+      go : Dec (slotOf (e j) ≡ s) → Dec (j ≡ a) → Toward e a (inSlot more (slotOf (e j))) j
       go (yes p) d = rw (p, slot-own) (record { from = omega arith; before = b; same = sym p })
       go (no n) (yes q) = absurd (n (ap (λ (i : ℕ). slotOf (e i)) q))
       go (no n) (no q) =
@@ -102,10 +102,10 @@ module _ (a size : ℕ) (e : Picture) (hints : List ℕ) (h : Linked (a + 1) siz
           rw (p, link-own, r) (record { from = omega arith; before = t .before; same = t .same })
       go (no n) = rw (link-other i n) (h .next i j (omega arith) c d q)
 
-  since : (t : ℕ) → t < 4096 → 0 < slot more t → a ≤ slot more t
+  since : (t : ℕ) → t < 4096 → 0 < inSlot more t → a ≤ inSlot more t
   since t b c = go (ℕ-discrete t s)
     where
-      go : Dec (t ≡ s) → a ≤ slot more t
+      go : Dec (t ≡ s) → a ≤ inSlot more t
       go (yes p) = rw (p, slot-own) (omega arith)
       go (no n) = let o = slot-other t b n in let u = h .since t b (omega arith) in omega arith
 
@@ -114,7 +114,7 @@ module _ (a size : ℕ) (e : Picture) (hints : List ℕ) (h : Linked (a + 1) siz
     where
       go : Dec (i ≡ a) → i < link more i
       go (yes p) =
-          let o : link more i ≡ slot hints s = rw p link-own in
+          let o : link more i ≡ inSlot hints s = rw p link-own in
           let u = h .since s (slot-below (e a)) (omega arith) in
           omega arith
       go (no n) = let o = link-other i n in let u = h .up i (omega arith) in omega arith
@@ -123,7 +123,7 @@ module _ (a size : ℕ) (e : Picture) (hints : List ℕ) (h : Linked (a + 1) siz
   linked = record { full = full; below = below; first = first; next = next; since = since; up = up }
 
 pub linked-more : (a b s size : ℕ) (e : Picture) (hints : List ℕ) → b ≡ a + 1 → s ≡ slotOf (e a) → Linked b size e hints → a < size → size ≤ 256
-    → Linked a size e (set (set hints (4096 + a) (slot hints s)) s a)
+    → Linked a size e (set (set hints (4096 + a) (inSlot hints s)) s a)
 linked-more a b s size e hints p q h l m = rw q (linked a size e hints (rw p at h) l m)
 
 -- following them: every entry that is v is reached from i
@@ -132,7 +132,7 @@ abbrev pub Leads : ℕ → Picture → Pixel → ℕ → Type 0
 Leads size e v i = (j : ℕ) → j < size → e j ≡ v → Toward e 0 i j
 
 module _ (size : ℕ) (e : Picture) (hints : List ℕ) (h : Hints size e hints) (v : Pixel) where
-  pub leads-slot : Leads size e v (slot hints (slotOf v))
+  pub leads-slot : Leads size e v (inSlot hints (slotOf v))
   leads-slot j l q = rw (← ap slotOf q) (h .first j (omega arith) l)
 
   -- past an entry that is not v

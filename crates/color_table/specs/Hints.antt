@@ -12,8 +12,9 @@ use Rattle.format.specs.Picture.{Picture, byteAt, pixels}
 unfoldable pub slotOf : Pixel → ℕ
 slotOf v = (v .red + 256 * v .green + 65536 * v .blue + 16777216 * v .alpha) * 2654435761 / 1048576 % 4096
 
-abbrev pub slot : List ℕ → ℕ → ℕ
-slot hints s = byteAt hints s
+-- what slot s holds, and the link of entry i
+abbrev pub inSlot : List ℕ → ℕ → ℕ
+inSlot hints s = byteAt hints s
 
 abbrev pub link : List ℕ → ℕ → ℕ
 link hints i = byteAt hints (4096 + i)
@@ -28,9 +29,9 @@ pub record Toward (e : Picture) (a i j : ℕ) : Type 0 where
 pub record Linked (a size : ℕ) (e : Picture) (hints : List ℕ) : Type 0 where
   pub full : length hints ≡ 4352
   pub below : (i : ℕ) → byteAt hints i < size
-  pub first : (j : ℕ) → a ≤ j → j < size → Toward e a (slot hints (slotOf (e j))) j
+  pub first : (j : ℕ) → a ≤ j → j < size → Toward e a (inSlot hints (slotOf (e j))) j
   pub next : (i j : ℕ) → a ≤ i → i < j → j < size → slotOf (e i) ≡ slotOf (e j) → Toward e (suc i) (link hints i) j
-  pub since : (s : ℕ) → s < 4096 → 0 < slot hints s → a ≤ slot hints s
+  pub since : (s : ℕ) → s < 4096 → 0 < inSlot hints s → a ≤ inSlot hints s
   pub up : (i : ℕ) → 0 < link hints i → i < link hints i
 
 abbrev pub Hints : ℕ → Picture → List ℕ → Type 0

@@ -60,7 +60,7 @@ fn count_same(
     j
 }
 
-// The same, and the group after them, which is of several.
+// The same, and the group after them, which is of several colors.
 fn count_run(
     picture: &[u8],
     i: usize,

@@ -1,4 +1,4 @@
-// The report of a picture: a test, then what is left of the tests, each where those before it passed.
+// The report of a picture. Each function makes its tests where those of its caller passed.
 use crate::colors::distinct;
 use crate::count::count_pixels;
 use crate::counters::add_counts;
@@ -34,7 +34,7 @@ fn report_listed(
     add_counts(counters, counts, size + 1)
 }
 
-// Test 23, then the rest. A list of colors is as long as a color map.
+// Test 23, then the rest. A list of colors may have the lengths of a color map.
 fn report_sized(
     width: usize,
     height: usize,

@@ -23,7 +23,8 @@ pub use stored_picture::StoredPicture;
 
 use error::accepted;
 
-/// Rebuilds the picture of which `strip` is the strip under `chain`.
+/// Rebuilds the picture of which `strip` is the strip under `chain`. The unused bits of a row's last
+/// packed record are ignored, so that strips stored earlier, with zeros there, rebuild too.
 pub fn rebuild(chain: &Chain, strip: &Strip) -> Result<Picture, Error> {
     chain.check()?;
     require_size(chain.strip_size(), strip.size())?;
@@ -33,6 +34,9 @@ pub fn rebuild(chain: &Chain, strip: &Strip) -> Result<Picture, Error> {
 }
 
 /// Makes the strip of `picture` under `chain`. Rebuilding it gives the picture.
+///
+/// A color table that packs several indices may leave positions of a row's last record unused: they
+/// hold the index of the row's last pixel.
 pub fn store(chain: &Chain, picture: &Picture) -> Result<Strip, Error> {
     chain.check()?;
     require_size(chain.size(), picture.size())?;
@@ -89,7 +93,9 @@ pub fn store_into(chain: &Chain, picture: &[u8], strip: &mut [u8]) -> Result<(),
 /// strip at the front of another afresh. Either buffer may be longer; bytes beyond stay.
 ///
 /// Where the strip is the picture stored, it is so after the call too. Where it is not, records away
-/// from the spots stay as they are: [`StoredPicture`] holds two that match.
+/// from the spots stay as they are: [`StoredPicture`] holds two that match. Retouching begins only from
+/// a strip that [`store`] or [`store_into`] made; one that was stored earlier, under document 01's zero
+/// bits at the ends of rows, is first rebuilt, and its picture stored.
 pub fn retouch_in_place(
     chain: &Chain,
     picture: &mut [u8],

@@ -129,9 +129,13 @@ fn color_table_of_3() {
     assert_eq!(rebuilt(&chain, &strip), picture);
     assert_eq!(stored(&chain, &picture), Err(Refusal::NoEntry.into()));
 
-    // Indices 0, 1, 2, 0 from the lowest bits, then 2 with the unused bits zero.
+    // Indices 0, 1, 2, 0 from the lowest bits, then 2, repeated in the unused positions.
+    let picture = [a, b, c, a, c];
+    let strip = [36, 170].map(|packed| Pixel::opaque(0, packed, 0));
+    both_ways(&chain, &strip, &picture);
+    // As it was stored earlier, the unused bits zero.
     let strip = [36, 2].map(|packed| Pixel::opaque(0, packed, 0));
-    both_ways(&chain, &strip, &[a, b, c, a, c]);
+    assert_eq!(rebuilt(&chain, &strip), picture);
 }
 
 #[test]

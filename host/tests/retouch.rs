@@ -6,7 +6,8 @@ mod common;
 use chains::{orders, random_chain, Transform};
 use common::Xorshift;
 use letchwater::{
-    retouch_in_place, store, Chain, Error, Picture, Pixel, Point, Refusal, Size, StoredPicture,
+    rebuild, retouch_in_place, store, Chain, Error, Picture, Pixel, Point, Refusal, Size,
+    StoredPicture, Strip,
 };
 
 const BLACK: Pixel = Pixel::opaque(0, 0, 0);
@@ -220,6 +221,28 @@ fn lists_of_retouches() {
     for count in 0..=5 {
         assert!(times(Ok(count)) > 10, "{count}");
     }
+}
+
+/// A strip stored earlier, with zero bits at the ends of its rows, is rebuilt, and its picture stored.
+/// From there on it is retouched, and the last column moves the unused bits too.
+#[test]
+fn a_strip_stored_earlier() {
+    let mut random = Xorshift::new(0x2545_F491_4F6C_DD1D);
+    let chain = Chain::new(Size::new(5, 2)).color_table(&[BLACK, red(50), red(100)]);
+    let earlier = [36, 2, 0, 1].map(|packed| Pixel::opaque(0, packed, 0).to_bytes());
+    let earlier = Strip::from_bytes(chain.strip_size(), earlier.concat()).unwrap();
+
+    let picture = rebuild(&chain, &earlier).unwrap();
+    let mut map = StoredPicture::new(chain, picture).unwrap();
+    let packed = |map: &StoredPicture| -> Vec<u8> {
+        let records = map.strip().records();
+        records.map(|record| record.green).collect()
+    };
+    assert_eq!(packed(&map), [36, 0b10_10_10_10, 0, 0b01_01_01_01]);
+    assert_eq!(changed(&mut map, 4, 1, red(100)), [3]);
+    assert_eq!(packed(&map), [36, 0b10_10_10_10, 0, 0b10_10_10_10]);
+    let list = random_list(&mut random, map.picture().size());
+    hold_against_desk(map, &list);
 }
 
 /// Lent buffers that are longer than needed keep the bytes beyond.

@@ -8,6 +8,7 @@ use common::Xorshift;
 use letchwater::{
     rebuild, rebuild_in_place, store, store_into, Chain, Picture, Pixel, Size, Strip,
 };
+use std::iter::repeat;
 
 const WIDTHS: [u32; 6] = [1, 2, 3, 5, 8, 17];
 const HEIGHTS: [u32; 3] = [1, 2, 7];
@@ -79,7 +80,22 @@ fn with_a_table_every_picture_that_is_rebuilt() {
     }
 }
 
-/// A table alone, whose packed bytes are made here from the indices.
+/// The records of a table alone, made here of the indices. The unused positions of a row's last
+/// record hold what `unused` makes of the row's last index.
+fn packed(indices: &[usize], width: u32, bits: usize, unused: fn(usize) -> usize) -> Vec<Pixel> {
+    let record = |indices: &[usize]| {
+        let last = indices[indices.len() - 1];
+        let held = indices.iter().copied().chain(repeat(unused(last)));
+        let shifts = (0..8).step_by(bits);
+        let byte: usize = shifts.zip(held).map(|(shift, index)| index << shift).sum();
+        Pixel::opaque(0, byte as u8, 0)
+    };
+    let rows = indices.chunks(width as usize);
+    let records = rows.flat_map(|row| row.chunks(8 / bits));
+    records.map(record).collect()
+}
+
+/// Also of strips stored earlier, with zero bits at the ends of rows.
 #[test]
 fn table_alone() {
     let mut random = Xorshift::new(0x9FB2_1C65_1E98_DF25);
@@ -93,17 +109,16 @@ fn table_alone() {
             let pixels = indices.iter().map(|&index| table[index]);
             let picture = Picture::from_pixels(size, pixels).unwrap();
 
-            let rows = indices.chunks(size.width as usize);
-            let bytes = rows.flat_map(|row| row.chunks(8 / bits)).map(|indices| {
-                let shifted = indices.iter().zip((0..).step_by(bits));
-                shifted.map(|(index, shift)| index << shift).sum::<usize>() as u8
-            });
-            let strip: Vec<Pixel> = bytes.map(|byte| Pixel::opaque(0, byte, 0)).collect();
-
             let chain = Chain::new(size).color_table(&table);
             let stored = store(&chain, &picture).unwrap();
+            let strip = packed(&indices, size.width, bits, |last| last);
             assert!(stored.records().eq(strip), "{size}, {entries}");
-            assert_eq!(rebuild(&chain, &stored), Ok(picture));
+            assert_eq!(rebuild(&chain, &stored), Ok(picture.clone()));
+
+            let earlier = packed(&indices, size.width, bits, |_| 0);
+            let earlier = earlier.into_iter().flat_map(Pixel::to_bytes).collect();
+            let earlier = Strip::from_bytes(chain.strip_size(), earlier).unwrap();
+            assert_eq!(rebuild(&chain, &earlier), Ok(picture));
         }
     }
 }

@@ -1,8 +1,12 @@
-//! The chain calls' inputs of the list: every order, every band of tables, and refusals.
+//! The chain calls' inputs of the list: every order, every band of tables, ends of rows, and
+//! refusals.
 
 use crate::given::{orders, Given, Plan, COLOR, COLOR_TABLE, PREDICTOR, SIZES, SUBTRACT_GREEN};
 use crate::list::{Call, ChainCase};
+use crate::model;
 use crate::random::Xorshift;
+use crate::row_ends::listed_scenes;
+use crate::scenes::Scene;
 
 type Edit = fn(&mut ChainCase);
 
@@ -114,6 +118,30 @@ pub(crate) fn band_cases(random: &mut Xorshift) -> Vec<ChainCase> {
             cases.push(rebuild_case(random, given.clone(), 0));
             cases.push(store_case(random, given, 0));
         }
+    }
+    cases
+}
+
+/// Each picture is stored. Its strip as it was stored earlier, under document 01's zero bits, is
+/// kept here too: it rebuilds to the picture.
+pub(crate) fn row_end_cases(random: &mut Xorshift) -> Vec<ChainCase> {
+    let mut cases = Vec::new();
+    for Scene { given, picture, .. } in listed_scenes(random) {
+        let mut image = model::stored_earlier(&given.valid(), &picture);
+        image.extend(random.bytes(picture.len() - image.len()));
+        let rebuilt = ChainCase {
+            call: Call::Rebuild,
+            given: given.clone(),
+            input: image,
+        };
+        assert!(rebuilt.answered() == (0, picture.clone()));
+        let strip_len = given.valid().strip_len();
+        let stored = ChainCase {
+            call: Call::Store { strip_len },
+            given,
+            input: picture,
+        };
+        cases.extend([stored, rebuilt]);
     }
     cases
 }

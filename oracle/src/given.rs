@@ -224,15 +224,37 @@ impl Given {
 
     /// A picture that storing accepts.
     pub fn storable(&self, random: &mut Xorshift) -> Vec<u8> {
-        self.picture(random, None)
+        self.picture(random, |_, _, _| {})
     }
 
     /// The same, but of the pixels that reach the table exactly this one has no entry.
     pub fn unstorable(&self, random: &mut Xorshift, without_entry: usize) -> Vec<u8> {
-        self.picture(random, Some(without_entry))
+        self.picture(random, |random, entries, pixels| {
+            pixels[without_entry] = no_entry(random, entries);
+        })
     }
 
-    fn picture(&self, random: &mut Xorshift, without_entry: Option<usize>) -> Vec<u8> {
+    /// A picture that storing accepts, in which the index of a row's last pixel is not 0, unless
+    /// the table has one color alone.
+    pub fn storable_row_ends(&self, random: &mut Xorshift) -> Vec<u8> {
+        self.picture(random, |random, entries, pixels| {
+            let others = entries.iter().filter(|&entry| *entry != entries[0]);
+            let others: Vec<[u8; 4]> = others.copied().collect();
+            if others.is_empty() {
+                return;
+            }
+            for row in pixels.chunks_exact_mut(self.width as usize) {
+                row[row.len() - 1] = random.choose(&others);
+            }
+        })
+    }
+
+    /// Any entries reach the table, but for the edit, which is given the entries and these pixels.
+    fn picture(
+        &self,
+        random: &mut Xorshift,
+        edit: impl FnOnce(&mut Xorshift, &[[u8; 4]], &mut [[u8; 4]]),
+    ) -> Vec<u8> {
         let chain = self.valid();
         let table = chain.steps.iter().enumerate().find_map(|(at, step)| {
             let Transform::ColorTable { entries, .. } = step.transform else {
@@ -246,9 +268,7 @@ impl Given {
         let mut pixels: Vec<[u8; 4]> = (0..chain.picture_len() / 4)
             .map(|_| random.choose(entries))
             .collect();
-        if let Some(pixel) = without_entry {
-            pixels[pixel] = no_entry(random, entries);
-        }
+        edit(random, entries, &mut pixels);
         let mut picture = pixels.into_flattened();
         chain.rebuild_before(at, &mut picture);
         picture

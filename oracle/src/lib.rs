@@ -35,6 +35,9 @@ pub mod damage;
 pub mod scenes;
 
 #[cfg(rust_source)]
+pub mod row_ends;
+
+#[cfg(rust_source)]
 pub mod shipments;
 
 #[cfg(rust_source)]

@@ -33,7 +33,8 @@
 //! length. Store: the input is the whole picture buffer; the strip's buffer has the output's length
 //! and holds 165 in every byte before the call; the output is what it holds after it. Either buffer
 //! may be longer than needed or, where the answer is 8, too short. After a refusal the output is
-//! what the buffer held.
+//! what the buffer held. Some of the rebuilt strips were stored earlier, under document 01's zero
+//! bits at the ends of rows.
 //!
 //! A list of retouches on the same buffers has these 16 bytes, then chain, data, picture and strip
 //! before the list, the calls, picture and strip after the list. Such cases stand after those of
@@ -87,13 +88,13 @@
 use crate::cases::{
     color_cases, color_map_cases, color_table_cases, predictor_cases, subtract_green_cases,
 };
-use crate::chain_cases::{band_cases, order_cases, refusal_cases};
+use crate::chain_cases::{band_cases, order_cases, refusal_cases, row_end_cases};
 use crate::given::Given;
 use crate::model;
 use crate::random::Xorshift;
 use crate::reference::picture_len;
 use crate::report_cases::{full_cases, list_cases, refused_reports, shipment_cases, twice_cases};
-use crate::retouch_cases::{desk_cases, refused_cases};
+use crate::retouch_cases::{desk_cases, refused_cases, row_end_lists};
 use crate::{color, color_map, color_table, predictor, subtract_green};
 
 /// What a part of a case may have at most, so that a replayer's buffers are fixed.
@@ -223,12 +224,12 @@ pub fn answers() -> Vec<u8> {
             case.write(&mut list);
         }
     }
-    for cases in [order_cases, band_cases, refusal_cases] {
+    for cases in [order_cases, band_cases, row_end_cases, refusal_cases] {
         for case in cases(&mut Xorshift::new(SEED)) {
             case.write(&mut list);
         }
     }
-    for cases in [desk_cases, refused_cases] {
+    for cases in [desk_cases, row_end_lists, refused_cases] {
         for case in cases(&mut Xorshift::new(SEED)) {
             case.write(&mut list);
         }

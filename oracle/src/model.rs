@@ -11,7 +11,7 @@ mod spots;
 
 pub use chain::{indices_in_byte, Chain, Step, Transform, KINDS};
 pub use desk::Desk;
-use forward::Pixel;
+use forward::{Pixel, Unused};
 pub use report::{counter_of, report};
 pub use retouch::retouch;
 
@@ -64,29 +64,39 @@ fn try_store(
         return Err(8);
     }
     let pixels = pixels(&picture[..chain.picture_len()]);
-    let records = stored(&chain, &pixels).ok_or(21u32)?;
+    let records = stored(&chain, Unused::LastIndex, &pixels).ok_or(21u32)?;
     strip[..chain.strip_len()].copy_from_slice(records.as_flattened());
     Ok(())
 }
 
+/// The strip of a picture that storing accepts, as it was stored earlier: document 01's zero bits
+/// are at the ends of its rows.
+pub fn stored_earlier(chain: &Chain, picture: &[u8]) -> Vec<u8> {
+    let pixels = pixels(&picture[..chain.picture_len()]);
+    let records = stored(chain, Unused::ZeroBits, &pixels).expect("the picture is accepted");
+    records.into_flattened()
+}
+
 /// The strip's records; nothing where storing does not accept the picture.
-fn stored(chain: &Chain, picture: &[Pixel]) -> Option<Vec<Pixel>> {
+fn stored(chain: &Chain, unused: Unused, picture: &[Pixel]) -> Option<Vec<Pixel>> {
     let mut pixels = picture.to_vec();
     for step in &chain.steps {
-        pixels = forward(step, &pixels)?;
+        pixels = forward(step, unused, &pixels)?;
     }
     Some(pixels)
 }
 
 /// What the step leaves of the pixels; nothing where one of them has no entry.
-fn forward(step: &Step, pixels: &[Pixel]) -> Option<Vec<Pixel>> {
+fn forward(step: &Step, unused: Unused, pixels: &[Pixel]) -> Option<Vec<Pixel>> {
     match step.transform {
         Transform::Predictor { bits, blocks } => {
             Some(forward::predictor(step.width, bits, blocks, pixels))
         }
         Transform::Color { bits, blocks } => Some(forward::color(step.width, bits, blocks, pixels)),
         Transform::SubtractGreen => Some(forward::subtract_green(pixels)),
-        Transform::ColorTable { entries, .. } => forward::color_table(step.width, entries, pixels),
+        Transform::ColorTable { entries, .. } => {
+            forward::color_table(step.width, entries, unused, pixels)
+        }
     }
 }
 

@@ -7,6 +7,7 @@ use crate::given::{record, Given, Plan, COLOR, COLOR_TABLE, PREDICTOR, SIZES, SU
 use crate::list::PART;
 use crate::model::{self, Desk};
 use crate::random::Xorshift;
+use crate::row_ends::listed_scenes;
 use crate::scenes::Scene;
 
 /// How many calls a list has.
@@ -124,6 +125,16 @@ pub(crate) fn desk_cases(random: &mut Xorshift) -> Vec<RetouchCase> {
         plan.size = size;
         scenes.push(Scene::any(random, &plan, CALLS));
     }
+    by_desk(random, scenes)
+}
+
+/// Calls in the last column, from the pictures that are stored in the cases of one call.
+pub(crate) fn row_end_lists(random: &mut Xorshift) -> Vec<RetouchCase> {
+    let scenes = listed_scenes(random);
+    by_desk(random, scenes)
+}
+
+fn by_desk(random: &mut Xorshift, scenes: Vec<Scene>) -> Vec<RetouchCase> {
     let by_desk = |scene| RetouchCase::by_desk(random, scene);
     scenes.into_iter().map(by_desk).collect()
 }

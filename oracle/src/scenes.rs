@@ -19,9 +19,7 @@ impl Scene {
     /// With a table behind the predictor nearly any retouch leaves a residual without entry. So
     /// most of these chains get a table that fits.
     pub fn any(random: &mut Xorshift, plan: &Plan, len: usize) -> Self {
-        let place = |kind| plan.kinds.iter().position(|&other| other == kind);
-        let residuals_are_looked_up =
-            matches!((place(PREDICTOR), place(COLOR_TABLE)), (Some(p), Some(t)) if p < t);
+        let residuals_are_looked_up = residuals_are_looked_up(plan);
         let small = usize::from(plan.width) * usize::from(plan.height) < ENTRIES;
         match random.below(4) {
             1 | 2 if residuals_are_looked_up => Self::of_steps(random, plan, len),
@@ -38,36 +36,33 @@ impl Scene {
     }
 
     /// Alphas a step apart, and a table of their differences: storing accepts every picture of
-    /// these colors. Where the step is not 1, averages would come between.
+    /// these colors.
     fn of_steps(random: &mut Xorshift, plan: &Plan, len: usize) -> Self {
-        let plan = Plan {
-            overlapping: false,
-            ..plan.clone()
-        };
-        let alphas = 1 << plan.size.ilog2();
-        let step = ENTRIES / alphas;
-        let mut given = plan.given(random);
-        for (record, &kind) in plan.kinds.iter().enumerate() {
-            let part = given.part_mut(record);
-            if kind == PREDICTOR {
-                for block in part {
-                    block[1] = match step {
-                        1 => random.below(14) as u8,
-                        _ => random.choose(&[0, 1, 2, 3, 4, 11]),
-                    };
-                }
-            } else if kind == COLOR_TABLE {
-                for (i, entry) in part.iter_mut().enumerate() {
-                    *entry = [0, 0, 0, (i * step) as u8];
-                }
-                random.shuffle(part);
-            }
-        }
-        let colors: Vec<[u8; 4]> = (0..alphas)
-            .map(|i| [0, 0, 0, (i * step) as u8 ^ 255])
-            .collect();
+        let given = stepped(random, plan);
+        let alphas = (0..ENTRIES).step_by(step(plan.size));
+        let colors: Vec<[u8; 4]> = alphas.map(|alpha| [0, 0, 0, alpha as u8 ^ 255]).collect();
         let pictures = [(); 4].map(|()| picture_of(random, &given, &colors));
         Self::from_pictures(random, given, pictures, len)
+    }
+
+    /// Calls in the last column, all of which are accepted, then `len` anywhere.
+    pub fn at_row_ends(random: &mut Xorshift, plan: &Plan, len: usize) -> Self {
+        let given = if residuals_are_looked_up(plan) {
+            stepped(random, plan)
+        } else {
+            plan.given(random)
+        };
+        let mut pictures = vec![given.storable_row_ends(random)];
+        // So many that even of two colors nearly every point has both.
+        pictures.extend((0..8).map(|_| given.storable(random)));
+        let mut list = last_column(random, &given, &pictures);
+        list.extend(any_list(random, &given, &pictures, len));
+        let picture = pictures.swap_remove(0);
+        Self {
+            given,
+            picture,
+            list,
+        }
     }
 
     /// A small picture of any few colors, and a table of what reaches it during a list.
@@ -151,9 +146,70 @@ impl Scene {
     }
 }
 
+fn residuals_are_looked_up(plan: &Plan) -> bool {
+    let place = |kind| plan.kinds.iter().position(|&other| other == kind);
+    matches!((place(PREDICTOR), place(COLOR_TABLE)), (Some(p), Some(t)) if p < t)
+}
+
+/// For a chain in which residuals are looked up: its table has every difference of the alphas that
+/// are a step apart. Where the step is not 1, averages would come between.
+fn stepped(random: &mut Xorshift, plan: &Plan) -> Given {
+    let plan = Plan {
+        overlapping: false,
+        ..plan.clone()
+    };
+    let step = step(plan.size);
+    let mut given = plan.given(random);
+    for (record, &kind) in plan.kinds.iter().enumerate() {
+        let part = given.part_mut(record);
+        if kind == PREDICTOR {
+            for block in part {
+                block[1] = match step {
+                    1 => random.below(14) as u8,
+                    _ => random.choose(&[0, 1, 2, 3, 4, 11]),
+                };
+            }
+        } else if kind == COLOR_TABLE {
+            for (i, entry) in part.iter_mut().enumerate() {
+                *entry = [0, 0, 0, (i * step) as u8];
+            }
+            random.shuffle(part);
+        }
+    }
+    given
+}
+
+/// The alphas are as many as fit into a table of this size, in a number that divides 256.
+fn step(size: u16) -> usize {
+    ENTRIES >> size.ilog2()
+}
+
 fn picture_of(random: &mut Xorshift, given: &Given, colors: &[[u8; 4]]) -> Vec<u8> {
     let pixels = (0..given.width * given.height).map(|_| random.choose(colors));
     pixels.collect::<Vec<_>>().into_flattened()
+}
+
+/// In every row the color that a picture has there, unlike the first's where there is one, and the
+/// same again; then in every second row the first picture's color.
+fn last_column(random: &mut Xorshift, given: &Given, pictures: &[Vec<u8>]) -> Vec<Retouch> {
+    let x = given.width - 1;
+    let color_in = |picture: &[u8], y: u32| picture.as_chunks().0[(y * given.width + x) as usize];
+    let mut list = Vec::new();
+    for y in 0..given.height {
+        let first = color_in(&pictures[0], y);
+        let others = pictures.iter().map(|picture| color_in(picture, y));
+        let others: Vec<[u8; 4]> = others.filter(|&color| color != first).collect();
+        let color = match others[..] {
+            [] => first,
+            _ => random.choose(&others),
+        };
+        list.extend([Retouch { x, y, color }; 2]);
+    }
+    for y in (0..given.height).step_by(2) {
+        let color = color_in(&pictures[0], y);
+        list.push(Retouch { x, y, color });
+    }
+    list
 }
 
 /// Mostly the color that one of the pictures has at the point. Some calls are made twice.

@@ -61,6 +61,29 @@ fn list_can_be_replayed() {
     assert!(cases.iter().all(|&count| count > 0), "{cases:?}");
 }
 
+/// Pictures are stored, and next a strip that storing does not make rebuilds to the same picture.
+#[test]
+fn list_keeps_strips_stored_earlier() {
+    let list = list();
+    let mut rest = list.as_slice();
+    let mut stored: Vec<&[u8]> = Vec::new();
+    let mut earlier = 0;
+    while rest[0] < 7 {
+        let header = part(&mut rest, 16);
+        let lengths = part_lengths(header).into_iter();
+        let parts: Vec<&[u8]> = lengths.map(|len| part(&mut rest, len)).collect();
+        match (header[0], parts.as_slice(), stored.as_slice()) {
+            (5, [chain, data, image, rebuilt], [store_chain, store_data, picture, strip]) => {
+                let same = (chain, data, rebuilt) == (store_chain, store_data, picture);
+                earlier += u32::from(same && !image.starts_with(strip));
+            }
+            (6, ..) => stored = parts,
+            _ => {}
+        }
+    }
+    assert!(earlier > 100, "{earlier}");
+}
+
 fn part<'a>(rest: &mut &'a [u8], len: usize) -> &'a [u8] {
     assert!(len <= 16384);
     rest.split_off(..len).expect("a whole part")

@@ -90,7 +90,7 @@ mod known {
         assert_eq!((answer, strip), (21, [165; 8]));
         image[3] = entries[1];
         let answer = model::store(5, 1, &chain, data, image.as_flattened(), &mut strip);
-        assert_eq!((answer, strip), (0, [0, 100, 0, 255, 0, 2, 0, 255]));
+        assert_eq!((answer, strip), (0, [0, 100, 0, 255, 0, 170, 0, 255]));
     }
 
     #[test]
@@ -102,6 +102,117 @@ mod known {
         };
         assert_eq!((answer(16384, &[]), answer(16385, &[])), (0, 1));
         assert_eq!((answer(1, &table(256)), answer(1, &table(257))), (0, 5));
+    }
+}
+
+/// What document 02 (ii) says, sentence by sentence.
+#[cfg(rust_source)]
+mod row_ends {
+    use oracle::calls::Retouch;
+    use oracle::given::{record, Given, COLOR_TABLE, PREDICTOR};
+    use oracle::model::{self, Desk};
+
+    /// Sizes of tables; a row of indices, its packed bytes, and those that were stored earlier.
+    const ROWS: [(u16, [&[u8]; 3]); 10] = [
+        (1, [&[0, 0, 0], &[0], &[0]]),
+        (2, [&[1, 0, 1], &[0b1111_1101], &[0b101]]),
+        (2, [&[1, 1, 0], &[0b11], &[0b11]]),
+        (2, [&[0, 0, 0, 0, 0, 0, 0, 0, 1], &[0, 255], &[0, 1]]),
+        (3, [&[0, 1, 2, 0, 2], &[36, 170], &[36, 2]]),
+        (4, [&[1, 3], &[0b1111_1101], &[0b1101]]),
+        (4, [&[3, 2, 1], &[0b0101_1011], &[0b01_1011]]),
+        (5, [&[1, 2, 4], &[0x21, 0x44], &[0x21, 4]]),
+        (16, [&[10], &[0xAA], &[10]]),
+        (17, [&[1, 2, 16], &[1, 2, 16], &[1, 2, 16]]),
+    ];
+
+    fn entry(index: u8) -> [u8; 4] {
+        [index, 7, 7, 7]
+    }
+
+    fn picture(indices: &[u8]) -> Vec<u8> {
+        indices.iter().flat_map(|&index| entry(index)).collect()
+    }
+
+    /// One row twice, under a table alone.
+    fn twice(size: u16, row: &[u8]) -> (Given, Vec<u8>) {
+        let data: Vec<u8> = (0..size as u8).flat_map(entry).collect();
+        let given = Given {
+            width: row.len() as u32,
+            height: 2,
+            chain: record(COLOR_TABLE, 0, size, 0, data.len() as u32),
+            data,
+        };
+        (given, picture(row).repeat(2))
+    }
+
+    fn packed(bytes: &[u8]) -> Vec<u8> {
+        bytes.iter().flat_map(|&byte| [0, byte, 0, 255]).collect()
+    }
+
+    fn stored(given: &Given, picture: &[u8]) -> Vec<u8> {
+        Desk::new(given.valid(), picture).strip()
+    }
+
+    /// "Fill the unused bits of a row's last packed record with the index of the row's last pixel,
+    /// repeated." "In place of document 01's zero bits."
+    #[test]
+    fn storing() {
+        for (size, [row, bytes, earlier]) in ROWS {
+            let (given, picture) = twice(size, row);
+            assert_eq!(stored(&given, &picture), packed(bytes).repeat(2));
+            let strip = model::stored_earlier(&given.valid(), &picture);
+            assert_eq!(strip, packed(earlier).repeat(2));
+        }
+    }
+
+    /// "Rebuilding still ignores them." "Our strips stored earlier rebuild as before."
+    #[test]
+    fn rebuilding() {
+        for (size, [row, bytes, earlier]) in ROWS {
+            let (given, picture) = twice(size, row);
+            for bytes in [bytes, earlier] {
+                let mut image = packed(bytes).repeat(2);
+                image.resize(picture.len(), 165);
+                let (chain, data) = (&given.chain, &given.data);
+                let answer = model::rebuild(given.width, 2, chain, data, &mut image);
+                assert_eq!((answer, image), (0, picture.clone()));
+            }
+        }
+    }
+
+    /// "Retouch in the last column therefore moves those bits too": of 5 columns, in 2 records.
+    #[test]
+    fn retouching() {
+        let (given, picture) = twice(3, &[0, 1, 2, 0, 2]);
+        let mut desk = Desk::new(given.valid(), &picture);
+        let last = Retouch {
+            x: 4,
+            y: 1,
+            color: entry(1),
+        };
+        assert_eq!(desk.answer(last), 256 + 32 + 1);
+        assert_eq!(desk.strip(), packed(&[36, 170, 36, 0b0101_0101]));
+        assert_eq!(desk.answer(last), 256);
+        // The last pixel is in this record, and stays.
+        let (given, picture) = twice(3, &[0, 2]);
+        let mut desk = Desk::new(given.valid(), &picture);
+        let first = Retouch { x: 0, ..last };
+        assert_eq!(desk.answer(first), 256 + 32 + 1);
+        assert_eq!(desk.strip(), packed(&[0b1010_1000, 0b1010_1001]));
+    }
+
+    /// "Row ends that predict better": the predictor is given the bits too.
+    #[test]
+    fn predicting() {
+        let (mut given, picture) = twice(2, &[1]);
+        given.chain.extend(record(PREDICTOR, 2, 0, 4, 4));
+        assert_eq!(
+            stored(&given, &picture),
+            [[0, 255, 0, 0], [0; 4]].as_flattened()
+        );
+        let earlier = model::stored_earlier(&given.valid(), &picture);
+        assert_eq!(earlier, [[0, 1, 0, 0], [0; 4]].as_flattened());
     }
 }
 

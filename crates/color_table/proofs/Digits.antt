@@ -61,11 +61,6 @@ few-of size n u entries q b r l =
 
 -- digits
 
-pub digits-same : (u n : ℕ) (g h : ℕ → ℕ) → ((k : ℕ) → k < n → g k ≡ h k) → digits u n g ≡ digits u n h
-unfolding digits
-digits-same u zero g h q = refl
-digits-same u (suc n) g h q = cc (q 0 (omega arith), digits-same u n (λ k. g (suc k)) (λ k. h (suc k)) (λ k l. q (suc k) (omega arith)))
-
 -- one digit more at the high end
 digits-last : (u k : ℕ) (g : ℕ → ℕ) → digits u (suc k) g ≡ digits u k g + u ^ k * g k
 unfolding digits

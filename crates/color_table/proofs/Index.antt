@@ -11,10 +11,10 @@ use Rattle.format.specs.declared.Pixel.{Pixel}
 use Rattle.format.specs.Choice.{if_then_else_}
 use Rattle.format.specs.Pixel.{equal}
 use Rattle.format.specs.Picture.{Picture}
-use Rattle.format.specs.ColorTable.{lowest, indexOf, hasEntry, haveEntries}
+use Rattle.format.specs.ColorTable.{lowest, indexOf, hasEntry, haveEntries, columnAt, indexAt}
 use Rattle.format.proofs.Choice.{every-at, and-both, and-left, and-right, and-false-right}
 use Rattle.format.proofs.Pixels.{equal-true, equal-refl}
-use Rattle.format.proofs.ColorTable.{lowest-hit, lowest-least, index-least}
+use Rattle.format.proofs.ColorTable.{column-inside, index-own, index-last, lowest-hit, lowest-least, index-least}
 use Rattle.color_table.specs.OneOf.{oneOf, EachOf}
 use Rattle.color_table.specs.Pack.{EachHas, rowIndices}
 
@@ -228,12 +228,26 @@ module _ (size : ℕ) (e f : Picture) where
   pub taken-entry : (m x : ℕ) (u : Pixel) → haveEntries size e m f ≡ true → u ≡ f x → x < m → hasEntry size e u ≡ true
   taken-entry m x u h p l = rw p (every-at m (λ j. hasEntry size e (f j)) x l h)
 
-  -- the index of a column, inside the row and past its end
-  pub row-inside : (w a k r : ℕ) (u : Pixel) → haveEntries size e w f ≡ true → u ≡ f (a + k) → r ≡ indexOf size e u → a + k < w → (r ≡ rowIndices w size e f a k) × (r < size)
+  -- the index at a position of a row by itself: its column's, below the table's size
+  pub row-own : (w a k : ℕ) → a + k < w → rowIndices w size e f a k ≡ indexOf size e (f (a + k))
   unfolding rowIndices
-  row-inside w a k r u h p q l =
-      (rw (lt-ltb (a + k) w l) (q ∙ ap (indexOf size e) p), taken-below w (a + k) r u h p q l)
+  row-own w a k l =
+      let z : 0 * w + (a + k) ≡ a + k = omega arith in
+      index-own w size e f 0 (a + k) l ∙ ap (λ (x : ℕ). indexOf size e (f x)) z
 
-  pub row-beyond : (w a k : ℕ) → w ≤ a + k → 0 ≡ rowIndices w size e f a k
+  pub row-below : (w a k : ℕ) → haveEntries size e w f ≡ true → 1 ≤ w → rowIndices w size e f a k < size
   unfolding rowIndices
-  row-beyond w a k l = rw (le-ltb (a + k) w l)
+  row-below w a k h pos = accepted-below w (0 * w + columnAt w (a + k)) h (omega (arith, column-inside w (a + k) pos))
+
+  pub row-inside : (w a k r : ℕ) (u : Pixel) → haveEntries size e w f ≡ true → u ≡ f (a + k) → r ≡ indexOf size e u → a + k < w → (r ≡ rowIndices w size e f a k) × (r < size)
+  row-inside w a k r u h p q l =
+      (q ∙ ap (indexOf size e) p ∙ sym (row-own w a k l), taken-below w (a + k) r u h p q l)
+
+  -- past the row's end it is the one before
+  pub row-again : (w a k r : ℕ) → r ≡ rowIndices w size e f a k → w ≤ a + (k + 1) → 1 ≤ w → r ≡ rowIndices w size e f a (k + 1)
+  unfolding rowIndices
+  row-again w a k r q l pos = q ∙ last (decLt (a + k) w) ∙ sym (index-last w size e f 0 (a + (k + 1)) l)
+    where
+      last : Dec (a + k < w) → indexAt w size e f 0 (a + k) ≡ indexOf size e (f (0 * w + (w - 1)))
+      last (yes m) = let z : a + k ≡ w - 1 = omega arith in index-own w size e f 0 (a + k) m ∙ ap (λ (x : ℕ). indexOf size e (f (0 * w + x))) z
+      last (no m) = index-last w size e f 0 (a + k) (omega arith)

@@ -2,15 +2,14 @@
 use mathlib.Core.List.{List}
 use mathlib.Core.Path.{_≡_, refl, sym, ap, _∙_}
 use Prim.Native.Nat.{ℕ, suc, _+_, _-_, _*_, _/_, _<_, _≤_}
-use native.Mathlib.Nat.{add-zero, mul-assoc, mul-comm, one-mul, mod-eq-of-lt, div-eq-of-lt, mul-le-mul, mul-le-mul-right, suc-mul, add-mul, le-div-iff-mul-le, mul-le-mul-left, div-le-self}
+use native.Mathlib.Nat.{add-zero, mul-assoc, mul-comm, one-mul, mod-eq-of-lt, div-eq-of-lt, mul-le-mul-right, suc-mul, add-mul, le-div-iff-mul-le, mul-le-mul-left, div-le-self}
 use native.Mathlib.Omega.{arith}
-use borrow.Author.Tests.{lt-ltb}
-use lib.Dec.{ltb}
 use Rattle.format.specs.declared.Pixel.{Pixel}
 use Rattle.format.specs.Pixel.{pixel}
 use Rattle.format.specs.Picture.{Picture, ceiling}
-use Rattle.format.specs.ColorTable.{perPixel, range, packedWidth, indexOf, digits, indexAt, packed}
-use Rattle.format.proofs.Choice.{if-same}
+use Rattle.format.specs.ColorTable.{perPixel, range, packedWidth, indexOf, digits, packed}
+use Rattle.format.proofs.ColorTable.{perPixel-pos, first-inside}
+use Rattle.format.proofs.Inside.{digits-same}
 use Rattle.pixel.specs.Cells.{pixelCells, putPixel, Rule, run, given}
 use Rattle.pixel.proofs.Cells.{run-none, run-next}
 use Rattle.pixel.proofs.Given.{given-none, given-put}
@@ -18,32 +17,31 @@ use Rattle.pixel.proofs.Rows.{run-then}
 use Rattle.pixel.specs.Word.{unword}
 use Rattle.color_table.specs.Pack.{rowIndices, uniform, plain}
 use Rattle.color_table.specs.Unpack.{FourOf}
-use Rattle.color_table.proofs.Digits.{digits-same}
+use Rattle.color_table.proofs.Index.{row-own}
 
 -- record j of a row by itself
 pub packed-row : (w size : ℕ) (e f : Picture) (j : ℕ) → j < packedWidth size w → pixel 0 (digits (range (perPixel size)) (perPixel size) (rowIndices w size e f (j * perPixel size))) 0 255 ≡ packed w size e f j
 unfolding packed rowIndices
-packed-row w size e f j l =
-    let n = perPixel size in
-    let z : (x : ℕ) → x ≡ 0 * w + x = λ x. omega arith in
-    rw (mod-eq-of-lt l, div-eq-of-lt l)
-    (ap (λ (d : ℕ). pixel 0 d 0 255)
-    (digits-same (range n) n (rowIndices w size e f (j * n)) (λ k. indexAt w size e f 0 (j * n + k)) (λ k m. if-same (ltb (j * n + k) w) (λ t. ap (λ (x : ℕ). indexOf size e (f x)) (z (j * n + k))) (λ t. refl))))
+packed-row w size e f j l = rw (mod-eq-of-lt l, div-eq-of-lt l)
 
 pub record-row : (w size : ℕ) (e f : Picture) (n u j : ℕ) (v : Pixel) → v ≡ pixel 0 (digits u n (rowIndices w size e f (j * n))) 0 255 → n ≡ perPixel size → u ≡ range n → j < packedWidth size w
     → v ≡ packed w size e f j
 record-row w size e f n u j v q p r l = q ∙ rw (r, p) (packed-row w size e f j l)
 
+-- its first position is a column
+pub record-first : (w size n j : ℕ) → n ≡ perPixel size → j < packedWidth size w → j * n < w
+record-first w size n j q l = rw q (first-inside w (perPixel size) j (perPixel-pos size) l)
+
 -- a record of two indices
 pub double-record : (w size i k b j : ℕ) (e f : Picture) (u v p : Pixel) → p ≡ pixel 0 b 0 255 → b ≡ i + 16 * k → u ≡ f (2 * j) → v ≡ f (2 * j + 1) → i ≡ indexOf size e u → k ≡ indexOf size e v → 2 ≡ perPixel size → 2 * j + 2 ≤ w
     → p ≡ packed w size e f j
-unfolding digits rowIndices
+unfolding digits
 double-record w size i k b j e f u v p q z r s x y places l =
     let o : j * 2 + 0 ≡ 2 * j = omega arith in
     let t : j * 2 + 1 ≡ 2 * j + 1 = omega arith in
-    let m : 2 * j < w = omega arith in
-    let n : 2 * j + 1 < w = omega arith in
-    let d : b ≡ digits 16 2 (rowIndices w size e f (j * 2)) = rw (o, t, lt-ltb (2 * j) w m, lt-ltb (2 * j + 1) w n, ← r, ← s, ← x, ← y) (z ∙ omega arith) in
+    let m = row-own size e f w (j * 2) 0 (omega arith) in
+    let n = row-own size e f w (j * 2) 1 (omega arith) in
+    let d : b ≡ digits 16 2 (rowIndices w size e f (j * 2)) = rw (m, n, o, t, ← r, ← s, ← x, ← y) (z ∙ omega arith) in
     record-row w size e f 2 16 j p (q ∙ ap (λ (c : ℕ). pixel 0 c 0 255) d) places refl (rw (← places) (omega arith))
 
 -- one record more
@@ -74,9 +72,6 @@ module _ (w size : ℕ) (e f : Picture) (n u : ℕ) where
     where
       at : (i v : ℕ) → RecordAt i v → i < packedWidth size w → unword v ≡ packed w size e f i
       at i v h m = record-row w size e f n u i (unword v) h places base m
-
-pub column-small : (j n : ℕ) → j ≤ 16384 → n ≤ 8 → j * n ≤ 131072
-column-small j n h l = mul-le-mul {n₁ = j} {m₁ = n} {n₂ = 16384} {m₂ = 8} h l
 
 -- the same record again
 
@@ -111,7 +106,7 @@ module _ (n m : ℕ) (group : m * n ≡ 16) where
   -- it is that of n pixels v, where the groups are all v
   pub record-again : (w size u g r q : ℕ) (e f : Picture) (v p : Pixel) → ((x : ℕ) → 16 * g ≤ x → x < 16 * r → f x ≡ v) → p ≡ uniform u n size e v → n ≡ perPixel size → u ≡ range n → 1 ≤ n → 16 * r ≤ w
       → g * m ≤ q → q < r * m → plain p q ≡ packed w size e f q
-  unfolding plain uniform rowIndices
+  unfolding plain uniform
   record-again w size u g r q e f v p h t places base pos l a b =
       let c = record-columns g r q a b in
       let s = suc-mul q n in
@@ -121,7 +116,7 @@ module _ (n m : ℕ) (group : m * n ≡ 16) where
       digit : (k : ℕ) → k < n → indexOf size e v ≡ rowIndices w size e f (q * n) k
       digit k i =
           let c = record-columns g r q a b in
-          rw (lt-ltb (q * n + k) w (omega arith)) (ap (indexOf size e) (sym (h (q * n + k) (omega arith) (omega arith))))
+          ap (indexOf size e) (sym (h (q * n + k) (omega arith) (omega arith))) ∙ sym (row-own size e f w (q * n) k (omega arith))
 
 pub group-columns : (g n : ℕ) → ((g + 1) * (16 / n) ≡ g * (16 / n) + 16 / n) × (g * (16 / n) ≤ 16 * g)
 group-columns g n = (add-mul g 1 (16 / n) ∙ ap (λ (z : ℕ). g * (16 / n) + z) (one-mul (16 / n)), omega (arith, mul-le-mul-left g (div-le-self 16 n)))

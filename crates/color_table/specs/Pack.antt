@@ -3,13 +3,11 @@ use mathlib.Core.Bool.{true}
 use mathlib.Core.List.{List}
 use mathlib.Core.Path.{_≡_}
 use Prim.Native.Nat.{ℕ, _+_, _-_, _*_, _/_, _<_, _≤_}
-use lib.Dec.{ltb}
 use lib.ListN.{length}
 use Rattle.format.specs.declared.Pixel.{Pixel}
-use Rattle.format.specs.Choice.{if_then_else_}
 use Rattle.format.specs.Pixel.{pixel}
 use Rattle.format.specs.Picture.{Picture, pixels}
-use Rattle.format.specs.ColorTable.{perPixel, range, indexOf, hasEntry, haveEntries, digits, packed}
+use Rattle.format.specs.ColorTable.{perPixel, range, indexOf, hasEntry, haveEntries, digits, indexAt, packed}
 use Rattle.pixel.specs.Cells.{pixelCells, run, given}
 use Rattle.pixel.specs.Word.{unword}
 use Rattle.color_table.specs.Hints.{Table}
@@ -53,11 +51,11 @@ abbrev pub GroupsOf : Packing → List ℕ → List ℕ → ℕ → ℕ → List
 GroupsOf p entries row g r xs ys =
     RecordsBy p entries row (g * (16 / p .n)) (r * (16 / p .n) - g * (16 / p .n)) xs ys
 
--- the index of column a + k of a row f; 0 past its end
+-- the index at position a + k of a row by itself
 unfoldable pub rowIndices : ℕ → ℕ → Picture → Picture → ℕ → ℕ → ℕ
-rowIndices w size e f a k = if ltb (a + k) w then indexOf size e (f (a + k)) else 0
+rowIndices w size e f a k = indexAt w size e f 0 (a + k)
 
--- v is the record whose indices start at column a of a row of w pixels
+-- v is the record whose first position is a, of a row of w pixels
 abbrev pub RecordFrom : ℕ → ℕ → ℕ → ℕ → List ℕ → List ℕ → ℕ → ℕ → Type 0
 RecordFrom size w n u entries row a v = unword v ≡ pixel 0 (digits u n (rowIndices w size (pixels entries) (pixels row) a)) 0 255
 

@@ -28,10 +28,19 @@ pub fn record_of(b: u32) -> u32
     join(0, b, 0, 255)
 }
 
-// The index of column a + k of a row; 0 past its end.
-fn index_at(row: &[u8], a: usize, k: usize, entries: &[u8], hints: &[u8], p: Packing) -> usize
+// The index at position a + k of a row: its column's or, past the row's end, the one before, which is the last column's.
+fn index_at(
+    row: &[u8],
+    a: usize,
+    k: usize,
+    before: usize,
+    entries: &[u8],
+    hints: &[u8],
+    p: Packing,
+) -> usize
     requires { ⌜ Packs p (now entries) (now hints) (now row) ⌝ }
-    requires { ⌜ a + k ≤ 1000000 ⌝ }
+    requires { ⌜ (a + k ≤ 1000000) × (p .width ≤ a + k → before ≡ rowIndices (p .width) (p .size)
+        (pixels (now entries)) (pixels (now row)) a k) ⌝ }
     ensures { λ r. ⌜ (r ≡ rowIndices (p .width) (p .size) (pixels (now (entries .entry)))
         (pixels (now (row .entry))) a k) × (r < p .range) ⌝ }
 {
@@ -39,22 +48,23 @@ fn index_at(row: &[u8], a: usize, k: usize, entries: &[u8], hints: &[u8], p: Pac
     if x < p.width {
         find(entries, p.size, hints, word_at(row, x))
     } else {
-        0
+        before
     }
 }
 
-// The record whose indices start at column a, lowest first. A row has at most 16384 columns: the bound is any that
-// keeps sums in range.
+// The record whose first position is a, lowest first.
 fn pack_record(row: &[u8], a: usize, entries: &[u8], hints: &[u8], p: Packing) -> u32
     requires { ⌜ Packs p (now entries) (now hints) (now row) ⌝ }
-    requires { ⌜ a ≤ 900000 ⌝ }
+    requires { ⌜ a < p .width ⌝ }
     ensures { λ r. ⌜ RecordFrom (p .size) (p .width) (p .n) (p .range) (now (entries .entry)) (now (row .entry)) a r ⌝ }
 {
     let mut b = 0;
     let mut weight = 1;
+    let mut index = 0;
     let mut k = 0;
     while k < p.n {
-        b = b + weight * index_at(row, a, k, entries, hints, p);
+        index = index_at(row, a, k, index, entries, hints, p);
+        b = b + weight * index;
         weight = weight * p.range;
         k += 1;
     }

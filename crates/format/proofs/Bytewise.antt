@@ -10,11 +10,11 @@ use Rattle.format.specs.Picture.{Picture}
 use Rattle.format.specs.Predictor.{predicted, residuals, fromResiduals}
 use Rattle.format.specs.Color.{transformColor, inverseColor, colorStored, colorRebuilt}
 use Rattle.format.specs.SubtractGreen.{greenStored, greenRebuilt}
-use Rattle.format.specs.ColorTable.{packedWidth, haveEntries, packed}
+use Rattle.format.specs.ColorTable.{perPixel, range, packedWidth, haveEntries, indexAt, packedAt, packed}
 use Rattle.format.proofs.Byte.{add-byte, sub-byte}
 use Rattle.format.proofs.Pixels.{Bytes}
 use Rattle.format.proofs.Predictor.{rebuilt-at}
-use Rattle.format.proofs.ColorTable.{packed-byte}
+use Rattle.format.proofs.ColorTable.{packed-small, rows-byte}
 
 -- the first n pixels are of bytes
 abbrev pub BytesIn : ℕ → Picture → Type 0
@@ -59,6 +59,11 @@ module _ (n : ℕ) (f : Picture) (bytes : BytesIn n f) where
 
 -- color table
 
+-- records of any indices
+pub rows-bytes : (w h size : ℕ) → 0 < w → size ≤ 256 → (i : ℕ → ℕ → ℕ) → ((y : ℕ) → y < h → (x : ℕ) → i y x < range (perPixel size))
+    → BytesIn (h * packedWidth size w) (λ r. packedAt size (i (r / packedWidth size w)) (r % packedWidth size w))
+rows-bytes w h size pos least i small r l = record { red = lit< tt; green = rows-byte w h size pos least i small r l; blue = lit< tt; alpha = lit< tt }
+
 pub packed-bytes : (w h size : ℕ) (e f : Picture) → 0 < w → size ≤ 256 → haveEntries size e (h * w) f ≡ true → BytesIn (h * packedWidth size w) (packed w size e f)
 unfolding packed
-packed-bytes w h size e f pos least taken r l = record { red = lit< tt; green = packed-byte w h size e f pos least taken r l; blue = lit< tt; alpha = lit< tt }
+packed-bytes w h size e f pos least taken = rows-bytes w h size pos least (indexAt w size e f) (packed-small w h size e f pos least taken)

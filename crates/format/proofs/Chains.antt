@@ -1,5 +1,5 @@
 -- Storing and rebuilding undo each other over every valid chain: record by record, each on what the others made.
-use mathlib.Core.Bool.{true}
+use mathlib.Core.Bool.{Bool, true}
 use mathlib.Core.List.{List}
 use mathlib.Core.Path.{_≡_, refl, sym, _∙_, subst}
 use Prim.Native.Nat.{ℕ, zero, suc, _*_, _<_, _≤_}
@@ -20,12 +20,17 @@ use Rattle.format.proofs.ByKind.{kinds, forward-0, forward-1, forward-2
 use Rattle.format.proofs.Stages.{widthAt-pos, forward-same, rebuilt-same}
 use Rattle.format.proofs.Valid.{valid-sized, valid-step, valid-known}
 
+-- what a record made of the picture f, as far as rebuilding goes: bytes, of which the record rebuilds f
+pub record Undone (s : Step) (h : ℕ) (ds : List ℕ) (f g : Picture) : Type 0 where
+  pub bytes : BytesIn (h * narrowed s) g
+  pub undone : Alike (h * s .width) (backward s h ds g) f
+
 -- one record that takes the picture
 
 module _ (s : Step) (h n : ℕ) (ds : List ℕ) (pos : 1 ≤ s .width) (valid : ValidStep s h n) (f : Picture) (bytes : BytesIn (h * s .width) f)
     (taken : takes s h ds f ≡ true)
   where
-    pub forward-bytes : BytesIn (h * narrowed s) (forward s ds f)
+    forward-bytes : BytesIn (h * narrowed s) (forward s ds f)
     forward-bytes =
         kinds (s .kind) (valid .known)
         (λ e. rw (forward-0 s ds f e, narrowed-other s (λ z. omega arith)) (residuals-bytes (s .width) (s .bits) (partOf s ds) f (h * s .width)))
@@ -33,7 +38,7 @@ module _ (s : Step) (h n : ℕ) (ds : List ℕ) (pos : 1 ≤ s .width) (valid : 
         (λ e. rw (forward-2 s ds f e, narrowed-other s (λ z. omega arith)) (greenStored-bytes (h * s .width) f bytes))
         (λ e. rw (forward-3 s ds f e, narrowed-table s e) (packed-bytes (s .width) h (s .size) (partOf s ds) f pos (valid .table e .most) (sym (takes-table s h ds f e) ∙ taken)))
 
-    pub backward-forward : Alike (h * s .width) (backward s h ds (forward s ds f)) f
+    backward-forward : Alike (h * s .width) (backward s h ds (forward s ds f)) f
     backward-forward q l =
         kinds (s .kind) (valid .known)
         (λ e. cc (forward-0 s ds f e, backward-0 s h ds (forward s ds f) e, predictor-stored (s .width) h pos f bytes (s .bits) (partOf s ds) q l))
@@ -45,6 +50,9 @@ module _ (s : Step) (h n : ℕ) (ds : List ℕ) (pos : 1 ≤ s .width) (valid : 
           backward-3 s h ds (forward s ds f) e,
           table-stored (s .width) h pos f bytes (s .size) (partOf s ds) (valid .table e .most) (sym (takes-table s h ds f e) ∙ taken) q l,
         ))
+
+    pub forward-undone : Undone s h ds f (forward s ds f)
+    forward-undone = record { bytes = forward-bytes; undone = backward-forward }
 
 -- one record without a table
 
@@ -72,34 +80,39 @@ module _ (s : Step) (h : ℕ) (ds : List ℕ) (pos : 1 ≤ s .width) (known : s 
     pub forward-backward : Alike (h * narrowed s) (forward s ds (backward s h ds g)) g
     forward-backward = rw (narrowed-other s untabled) forward-backward-wide
 
+-- stages, each of which was made of the one before
+
+module _ (w h : ℕ) (cs ds : List ℕ) (valid : inputRefusal w h cs ds ≡ 0) (stages : ℕ → Picture) (bytes : BytesIn (h * w) (stages 0)) (taken : ℕ → Bool)
+    (before : (k : ℕ) → taken (suc k) ≡ true → taken k ≡ true)
+    (next : (k : ℕ) → k < count cs → taken (suc k) ≡ true → BytesIn (h * widthAt cs w k) (stages k) → Undone (stepAt cs w k) h ds (stages k) (stages (suc k)))
+  where
+    stage-bytes : (k : ℕ) → k ≤ count cs → taken k ≡ true → BytesIn (h * widthAt cs w k) (stages k)
+    unfolding widthAt recordAt
+    stage-bytes zero l a = bytes
+    stage-bytes (suc k) l a = next k l a (stage-bytes k (omega arith) (before k a)) .bytes
+
+    -- rebuilding the last one gives the first one
+    pub stages-rebuilt : (k : ℕ) → k ≤ count cs → taken k ≡ true → Alike (h * w) (rebuilt (stepAt cs w) h ds k (stages k)) (stages 0)
+    unfolding rebuilt recordAt
+    stages-rebuilt zero l a q m = refl
+    stages-rebuilt (suc k) l a q m =
+        let step = next k l a (stage-bytes k (omega arith) (before k a)) in
+        rebuilt-same cs w h ds (valid-sized w h cs ds valid .wide) k (λ j i. valid-known w h cs ds valid j (omega arith)) (backward (stepAt cs w k) h ds (stages (suc k))) (stages k) (step .undone) q m
+        ∙ stages-rebuilt k (omega arith) (before k a) q m
+
 -- chains that accept the picture
 
 module _ (w h : ℕ) (cs ds : List ℕ) (valid : inputRefusal w h cs ds ≡ 0) (f : Picture) (bytes : BytesIn (h * w) f) where
-  abbrev wide : 1 ≤ w
-  wide = valid-sized w h cs ds valid .wide
-
-  pub stored-bytes : (k : ℕ) → k ≤ count cs → accepts (stepAt cs w) h ds k f ≡ true → BytesIn (h * widthAt cs w k) (stored (stepAt cs w) ds k f)
-  unfolding stored accepts widthAt recordAt
-  stored-bytes zero l a = bytes
-  stored-bytes (suc k) l a =
-      forward-bytes (stepAt cs w k) h (length ds) ds (widthAt-pos cs w k wide) (valid-step w h cs ds valid k l) (stored (stepAt cs w) ds k f)
-      (stored-bytes k (omega arith) (and-left (accepts (stepAt cs w) h ds k f) _ a)) (and-right (accepts (stepAt cs w) h ds k f) _ a)
-
-  rebuilt-stored : (k : ℕ) → k ≤ count cs → accepts (stepAt cs w) h ds k f ≡ true → Alike (h * w) (rebuilt (stepAt cs w) h ds k (stored (stepAt cs w) ds k f)) f
-  unfolding stored rebuilt accepts recordAt
-  rebuilt-stored zero l a q m = refl
-  rebuilt-stored (suc k) l a q m =
-      let s = stepAt cs w k in
-      let before = and-left (accepts (stepAt cs w) h ds k f) _ a in
-      let undone =
-      backward-forward s h (length ds) ds (widthAt-pos cs w k wide) (valid-step w h cs ds valid k l) (stored (stepAt cs w) ds k f)
-      (stored-bytes k (omega arith) before) (and-right (accepts (stepAt cs w) h ds k f) _ a) in
-      rebuilt-same cs w h ds wide k (λ j i. valid-known w h cs ds valid j (omega arith)) (backward s h ds (forward s ds (stored (stepAt cs w) ds k f))) (stored (stepAt cs w) ds k f) undone q m
-      ∙ rebuilt-stored k (omega arith) before q m
+  abbrev accepted : ℕ → Bool
+  accepted k = accepts (stepAt cs w) h ds k f
 
   -- rebuilding what was stored gives the picture
-  pub chain-stored : accepts (stepAt cs w) h ds (count cs) f ≡ true → Alike (h * w) (rebuilt (stepAt cs w) h ds (count cs) (stored (stepAt cs w) ds (count cs) f)) f
-  chain-stored = rebuilt-stored (count cs) (le-refl (count cs))
+  pub chain-stored : accepted (count cs) ≡ true → Alike (h * w) (rebuilt (stepAt cs w) h ds (count cs) (stored (stepAt cs w) ds (count cs) f)) f
+  unfolding stored accepts recordAt
+  chain-stored =
+      stages-rebuilt w h cs ds valid (λ k. stored (stepAt cs w) ds k f) bytes accepted (λ k a. and-left (accepted k) _ a)
+      (λ k l a b. forward-undone (stepAt cs w k) h (length ds) ds (widthAt-pos cs w k (valid-sized w h cs ds valid .wide)) (valid-step w h cs ds valid k l) (stored (stepAt cs w) ds k f) b (and-right (accepted k) _ a))
+      (count cs) (le-refl (count cs))
 
 -- chains without a color table
 

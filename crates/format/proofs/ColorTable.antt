@@ -2,19 +2,19 @@
 -- pixel.
 use mathlib.Core.Bool.{Bool, true, false}
 use mathlib.Core.Path.{_≡_, refl, sym, ap, _∙_}
-use Prim.Native.Nat.{ℕ, zero, suc, _+_, _*_, _/_, _%_, _^_, _<_, _≤_}
+use Prim.Native.Nat.{ℕ, zero, suc, _+_, _-_, _*_, _/_, _%_, _^_, _<_, _≤_}
 use native.Mathlib.Nat.{not-suc-le-zero, le-of-suc-le-suc, zero-add, pow-zero, pow-succ', div-one, mod-eq-of-lt, div-eq-of-lt, add-mul-mod-self-left, add-mul-div-left, div-div-eq-div-mul, mod-lt, div-add-mod', div-lt-iff-lt-mul, le-div-iff-mul-le, suc-mul, div-mul-le-self, one-mul, lt-of-lt-of-le}
 use lib.Pow.{pow-add}
 use native.Mathlib.Decide.{decLt}
 use native.Mathlib.Omega.{arith}
-use borrow.Author.Tests.{ltb-true, leb-true, lt-ltb}
+use borrow.Author.Tests.{ltb-true, leb-true, lt-ltb, le-ltb}
 use lib.Arith.{digits-lt, digits-div, digits-mod}
 use lib.Dec.{ltb, leb, lit<}
 use Rattle.format.specs.Choice.{if_then_else_}
 use Rattle.format.specs.declared.Pixel.{Pixel}
 use Rattle.format.specs.Pixel.{equal}
 use Rattle.format.specs.Picture.{Picture, ceiling}
-use Rattle.format.specs.ColorTable.{perPixel, range, packedWidth, indexIn, entry, unpacked, lowest, indexOf, hasEntry, haveEntries, digits, indexAt, packed}
+use Rattle.format.specs.ColorTable.{perPixel, range, packedWidth, indexIn, entry, unpacked, lowest, indexOf, hasEntry, haveEntries, digits, columnAt, indexAt, packedAt, packed}
 use Rattle.format.proofs.Choice.{every-at}
 use Rattle.format.proofs.Pixels.{equal-true, equal-refl}
 
@@ -152,55 +152,48 @@ column-packed w n x pos l = le-div-iff-mul-le pos .1 (omega (arith, suc-mul (x /
 pub ceiling-pos : (w n : ℕ) → 0 < w → 0 < n → 0 < ceiling w n
 ceiling-pos w n p q = le-div-iff-mul-le q .1 (omega (arith, one-mul n))
 
--- rebuilding undoes storing
+-- a record's first position is a column
+pub first-inside : (w n j : ℕ) → 0 < n → j < ceiling w n → j * n < w
+first-inside w n j pos l = let m : suc j * n ≤ w + n - 1 = le-div-iff-mul-le pos .0 l in omega (arith, suc-mul j n)
 
-module _ (w h size : ℕ) (e f : Picture) (pos : 0 < w) (least : size ≤ 256) (taken : haveEntries size e (h * w) f ≡ true) where
-  abbrev n : ℕ
-  n = perPixel size
+-- the column of a position: its own, or the row's last
+pub column-own : (w x : ℕ) → x < w → columnAt w x ≡ x
+column-own w x l = rw (lt-ltb x w l)
 
-  index-below : (q : ℕ) → q < h * w → indexOf size e (f q) < size
-  index-below q l = ltb-true (indexOf size e (f q)) size (every-at (h * w) (λ p. hasEntry size e (f p)) q l taken)
+pub column-last : (w x : ℕ) → w ≤ x → columnAt w x ≡ w - 1
+column-last w x l = rw (le-ltb x w l)
 
-  digit-small : (y : ℕ) → y < h → (x : ℕ) → indexAt w size e f y x < range n
-  digit-small y l x = go (ltb x w) (ltb-true x w)
-    where
-      go : (b : Bool) → (b ≡ true → x < w) → (if b then indexOf size e (f (y * w + x)) else 0) < range n
-      go true t = lt-of-lt-of-le (index-below (y * w + x) (digits-lt l (t refl))) (bundled size least .fits)
-      go false t = bundled size least .some
+pub column-inside : (w x : ℕ) → 0 < w → columnAt w x < w
+column-inside w x pos = go (ltb x w) (ltb-true x w)
+  where
+    go : (b : Bool) → (b ≡ true → x < w) → (if b then x else w - 1) < w
+    go true t = t refl
+    go false t = omega arith
 
-  pub entry-at-index : (q : ℕ) → q < h * w → entry size e (indexOf size e (f q)) ≡ f q
-  entry-at-index q l = rw (lt-ltb (indexOf size e (f q)) size (index-below q l)) (lowest-hit e (f q) size 0 (rw (zero-add size) (index-below q l)))
+-- so that a position has its column's index; an unused one has that of the row's last pixel
+module _ (w size : ℕ) (e f : Picture) (y x : ℕ) where
+  pub index-own : x < w → indexAt w size e f y x ≡ indexOf size e (f (y * w + x))
+  index-own l = rw (lt-ltb x w l)
 
-  pub unpacked-packed : (q : ℕ) → q < h * w → unpacked w size e (packed w size e f) q ≡ f q
-  unfolding unpacked packed
-  unpacked-packed q l = ap (entry size e) found ∙ entry-at-index q l
-    where
-      x : ℕ
-      x = q % w
+  pub index-last : w ≤ x → indexAt w size e f y x ≡ indexOf size e (f (y * w + (w - 1)))
+  index-last l = rw (le-ltb x w l)
 
-      y : ℕ
-      y = q / w
+-- unpacking looks at the used indices alone: packed pixels that agree in them unpack alike
 
-      inside : x < w
-      inside = mod-lt q pos
+-- the index of pixel q in the packed pixels g
+abbrev pub usedIndex : ℕ → ℕ → Picture → ℕ → ℕ
+usedIndex w size g q =
+    let n = perPixel size in
+    indexIn n (g (q / w * packedWidth size w + q % w / n) .green) (q % w % n)
 
-      below : y < h
-      below = div-lt-iff-lt-mul pos .1 l
+pub unpacked-used : (w size : ℕ) (e f g : Picture) (q : ℕ) → usedIndex w size f q ≡ usedIndex w size g q → unpacked w size e f q ≡ unpacked w size e g q
+unfolding unpacked
+unpacked-used w size e f g q same = ap (entry size e) same
 
-      column : x / n < packedWidth size w
-      column = column-packed w n x (perPixel-pos size) inside
-
-      found : indexIn n (packed w size e f (y * packedWidth size w + x / n) .green) (x % n) ≡ indexOf size e (f q)
-      found =
-          index-digit n (packed w size e f (y * packedWidth size w + x / n) .green) (x % n)
-          ∙ rw (digits-div y column, digits-mod y column)
-          (digit (range n) (bundled size least .some) n (λ k. indexAt w size e f y (x / n * n + k)) (x % n) (λ k m. digit-small y below (x / n * n + k)) (mod-lt x (perPixel-pos size))
-          ∙ rw (div-add-mod' x n, lt-ltb x w inside) (ap (λ (z : ℕ). indexOf size e (f z)) (div-add-mod' q w)))
-
--- a packed byte is a byte
+-- records of any indices
 
 module _ (u : ℕ) (pos : 0 < u) where
-  digits-below : (n : ℕ) (g : ℕ → ℕ) → ((k : ℕ) → k < n → g k < u) → digits u n g < u ^ n
+  pub digits-below : (n : ℕ) (g : ℕ → ℕ) → ((k : ℕ) → k < n → g k < u) → digits u n g < u ^ n
   unfolding digits
   digits-below zero g h = rw (pow-zero u) (lit< tt)
   digits-below (suc n) g h =
@@ -208,12 +201,68 @@ module _ (u : ℕ) (pos : 0 < u) where
       let below : P * u + g 0 < u ^ n * u = digits-lt (digits-below n (λ k. g (suc k)) (λ k m. h (suc k) (omega arith))) (h 0 (omega arith)) in
       omega (arith, pow-succ' u n)
 
-module _ (w h size : ℕ) (e f : Picture) (pos : 0 < w) (least : size ≤ 256) (taken : haveEntries size e (h * w) f ≡ true) where
-  pub packed-byte : (r : ℕ) → r < h * packedWidth size w → packed w size e f r .green < 256
-  unfolding packed
-  packed-byte r l =
-      let u = perPixel size in
+-- index i y x at position x of row y
+module _ (w h size : ℕ) (pos : 0 < w) (least : size ≤ 256) (i : ℕ → ℕ → ℕ) (small : (y : ℕ) → y < h → (x : ℕ) → i y x < range (perPixel size)) where
+  abbrev n : ℕ
+  n = perPixel size
+
+  abbrev rows : Picture
+  rows r = packedAt size (i (r / packedWidth size w)) (r % packedWidth size w)
+
+  -- what was packed for a pixel is found again
+  pub used-packed : (q : ℕ) → q < h * w → usedIndex w size rows q ≡ i (q / w) (q % w)
+  used-packed q l =
+      index-digit n (rows (y * packedWidth size w + x / n) .green) (x % n)
+      ∙ rw (digits-div y column, digits-mod y column)
+      (digit (range n) (bundled size least .some) n (λ k. i y (x / n * n + k)) (x % n) (λ k m. small y below (x / n * n + k)) (mod-lt x (perPixel-pos size))
+      ∙ ap (i y) (div-add-mod' x n))
+    where
+      x : ℕ
+      x = q % w
+
+      y : ℕ
+      y = q / w
+
+      below : y < h
+      below = div-lt-iff-lt-mul pos .1 l
+
+      column : x / n < packedWidth size w
+      column = column-packed w n x (perPixel-pos size) (mod-lt q pos)
+
+  -- its own index, where a column's position has that
+  pub used-own : (e f : Picture) → ((y x : ℕ) → x < w → i y x ≡ indexOf size e (f (y * w + x)))
+      → (q : ℕ) → q < h * w → usedIndex w size rows q ≡ indexOf size e (f q)
+  used-own e f own q l =
+      used-packed q l ∙ own (q / w) (q % w) (mod-lt q pos) ∙ ap (λ (z : ℕ). indexOf size e (f z)) (div-add-mod' q w)
+
+  -- a packed byte is a byte
+  pub rows-byte : (r : ℕ) → r < h * packedWidth size w → rows r .green < 256
+  rows-byte r l =
       let y = r / packedWidth size w in
-      let below : y < h = div-lt-iff-lt-mul (ceiling-pos w u pos (perPixel-pos size)) .1 l in
-      let b = digits-below (range u) (bundled size least .some) u (λ k. indexAt w size e f y (r % packedWidth size w * u + k)) (λ k m. digit-small w h size e f pos least taken y below (r % packedWidth size w * u + k)) in
+      let below : y < h = div-lt-iff-lt-mul (ceiling-pos w n pos (perPixel-pos size)) .1 l in
+      let b = digits-below (range n) (bundled size least .some) n (λ k. i y (r % packedWidth size w * n + k)) (λ k m. small y below (r % packedWidth size w * n + k)) in
       rw (bundled size least .whole) at b
+
+-- rebuilding undoes storing
+
+module _ (w h size : ℕ) (e f : Picture) (pos : 0 < w) (least : size ≤ 256) (taken : haveEntries size e (h * w) f ≡ true) where
+  index-below : (q : ℕ) → q < h * w → indexOf size e (f q) < size
+  index-below q l = ltb-true (indexOf size e (f q)) size (every-at (h * w) (λ p. hasEntry size e (f p)) q l taken)
+
+  pub index-small : (y : ℕ) → y < h → (x : ℕ) → x < w → indexOf size e (f (y * w + x)) < range (perPixel size)
+  index-small y l x m = lt-of-lt-of-le (index-below (y * w + x) (digits-lt l m)) (bundled size least .fits)
+
+  pub packed-small : (y : ℕ) → y < h → (x : ℕ) → indexAt w size e f y x < range (perPixel size)
+  packed-small y l x = index-small y l (columnAt w x) (column-inside w x pos)
+
+  entry-at-index : (q : ℕ) → q < h * w → entry size e (indexOf size e (f q)) ≡ f q
+  entry-at-index q l = rw (lt-ltb (indexOf size e (f q)) size (index-below q l)) (lowest-hit e (f q) size 0 (rw (zero-add size) (index-below q l)))
+
+  pub used-stored : (q : ℕ) → q < h * w → usedIndex w size (packed w size e f) q ≡ indexOf size e (f q)
+  unfolding packed
+  used-stored =
+      used-own w h size pos least (indexAt w size e f) packed-small e f (index-own w size e f)
+
+  pub unpacked-packed : (q : ℕ) → q < h * w → unpacked w size e (packed w size e f) q ≡ f q
+  unfolding unpacked
+  unpacked-packed q l = ap (entry size e) (used-stored q l) ∙ entry-at-index q l

@@ -15,10 +15,11 @@ use Rattle.format.specs.Refusals.{accepted, sizeRefusal, chainRefusal, i
 use Rattle.format.specs.Stages.{stored, rebuilt}
 use Rattle.format.specs.Retouch.{differ, marks, maskOf}
 use Rattle.format.specs.Calls.{records, rebuildAnswer, rebuildImage, storeAnswer, storeStrip, touched}
+use Rattle.format.specs.Earlier.{earlierStored, earlierStrip}
 use Rattle.format.specs.Lists.{leftBy}
 use Rattle.format.specs.Desk.{Retouch, Buffers, desk, callLeaves}
 use Rattle.format.specs.Report.{counter, colorCount, counterCount, reportAnswer, report, sum}
-use Rattle.format.specs.Promises.{SameFront, Admitted, RebuildingExactly, StoringExactly, RebuildingAnswers, StoringAnswers, RetouchingAnswers, RebuildingRefused, StoringRefused, RetouchingRefused, RebuildsStored, StoresRebuilt, StoredPair, OneCall, left, paintedInTurn, RetouchesLikeDesk, ColorMapAnswers, ColorMapUndone, ColorMapRefused, ReportingAnswers, ReportingRefused, ofColor, ofNone, allPixels, leftCounters, ReportsAddUp}
+use Rattle.format.specs.Promises.{SameFront, Admitted, RebuildingExactly, StoringExactly, RebuildingAnswers, StoringAnswers, RetouchingAnswers, RebuildingRefused, StoringRefused, RetouchingRefused, RebuildsStored, RebuildsEarlier, AnswersAsEarlier, StoresRebuilt, StoredPair, OneCall, left, paintedInTurn, RetouchesLikeDesk, ColorMapAnswers, ColorMapUndone, ColorMapRefused, ReportingAnswers, ReportingRefused, ofColor, ofNone, allPixels, leftCounters, ReportsAddUp}
 use Rattle.format.proofs.Picture.{written-same}
 use Rattle.format.proofs.RoundTrips.{map-adjusted, map-unadjusted}
 use Rattle.format.proofs.Written.{bytes-pixels, pixels-written}
@@ -27,6 +28,7 @@ use Rattle.format.proofs.Stages.{stored-same, rebuilt-same}
 use Rattle.format.proofs.Valid.{before-zero, valid-sized, valid-known}
 use Rattle.format.proofs.Chains.{chain-stored, chain-rebuilt, widthAt-untabled, accepts-untabled}
 use Rattle.format.proofs.Calls.{rebuildAnswer-most, rebuild-accepts, rebuild-accepted, rebuildImage-accepted, rebuildImage-refused, storeAnswer-listed, store-accepts, store-accepted, storeStrip-accepted, storeStrip-refused, retouchAnswer-listed, retouch-refused}
+use Rattle.format.proofs.Earlier.{chain-earlier, earlier-answer, earlier-accepted, earlierStrip-accepted}
 use Rattle.format.proofs.Marks.{marks-length, mask-small}
 use Rattle.format.proofs.Spots.{spots-few}
 use Rattle.format.proofs.Lists.{left-kept, left-total}
@@ -90,27 +92,34 @@ module _ (w h : ℕ) (cs ds : List ℕ) where
     λ a. store-accepts w h cs ds picture strip (admitted .1 (a .0)) (a .1) (a .2) (a .3),
   )
 
-  pub rebuilds-stored : RebuildsStored w h cs ds
-  rebuilds-stored picture strip image bytes e room front =
+  -- a buffer whose front holds records that make f is rebuilt to f
+  rebuilds : (f s : Picture) (image : List ℕ) → inputRefusal w h cs ds ≡ 0 → 4 * (h * w) ≤ length image → Alike (records w h cs) (pixels image) s → Alike (h * w) (rebuilt (stepAt cs w) h ds (count cs) s) f
+      → (rebuildAnswer w h cs ds image ≡ 0) × (rebuildImage w h cs ds image ≡ written (h * w) f image)
+  rebuilds f s image valid room front made =
       (taken, rebuildImage-accepted w h cs ds image taken ∙ written-same (h * w) (rebuilt (stepAt cs w) h ds (count cs) (pixels image)) f image same)
     where
-      valid : inputRefusal w h cs ds ≡ 0
-      valid = store-accepted w h cs ds picture strip e .0
-
       taken : rebuildAnswer w h cs ds image ≡ 0
       taken = rebuild-accepts w h cs ds image valid room
 
-      f : Picture
-      f = pixels picture
-
-      s : Picture
-      s = stored (stepAt cs w) ds (count cs) f
-
       same : Alike (h * w) (rebuilt (stepAt cs w) h ds (count cs) (pixels image)) f
-      same q l =
-          rebuilt-same cs w h ds (valid-sized w h cs ds valid .wide) (count cs) (valid-known w h cs ds valid) (pixels image) s
-          (front-written (records w h cs) s image (storeStrip w h cs ds picture strip) strip front (storeStrip-accepted w h cs ds picture strip e)) q l
-          ∙ chain-stored w h cs ds valid f (λ p m. bytes-pixels picture bytes p) (store-accepted w h cs ds picture strip e .3) q l
+      same q l = rebuilt-same cs w h ds (valid-sized w h cs ds valid .wide) (count cs) (valid-known w h cs ds valid) (pixels image) s front q l ∙ made q l
+
+  pub rebuilds-stored : RebuildsStored w h cs ds
+  rebuilds-stored picture strip image bytes e room front =
+      let a = store-accepted w h cs ds picture strip e in
+      let s = stored (stepAt cs w) ds (count cs) (pixels picture) in
+      rebuilds (pixels picture) s image (a .0) room (front-written (records w h cs) s image (storeStrip w h cs ds picture strip) strip front (storeStrip-accepted w h cs ds picture strip e))
+      (chain-stored w h cs ds (a .0) (pixels picture) (λ p m. bytes-pixels picture bytes p) (a .3))
+
+  pub rebuilds-earlier : RebuildsEarlier w h cs ds
+  rebuilds-earlier picture strip image bytes e room front =
+      let a = earlier-accepted w h cs ds picture strip e in
+      let s = earlierStored (stepAt cs w) ds (count cs) (pixels picture) in
+      rebuilds (pixels picture) s image (a .0) room (front-written (records w h cs) s image (earlierStrip w h cs ds picture strip) strip front (earlierStrip-accepted w h cs ds picture strip e))
+      (chain-earlier w h cs ds (a .0) (pixels picture) (λ p m. bytes-pixels picture bytes p) (a .1))
+
+  pub answers-as-earlier : AnswersAsEarlier w h cs ds
+  answers-as-earlier = earlier-answer w h cs ds
 
   pub stores-rebuilt : StoresRebuilt w h cs ds
   unfolding recordAt

@@ -4,18 +4,17 @@ use Prim.Native.Nat.{ℕ, zero, suc, _+_, _*_, _/_, _%_, _<_, _≤_}
 use native.Mathlib.Nat.{mod-lt, div-lt-iff-lt-mul}
 use native.Mathlib.Omega.{arith}
 use lib.Arith.{digits-lt}
-use lib.Dec.{eqb, ltb}
-use borrow.Author.Tests.{ltb-true}
+use lib.Dec.{eqb}
 use Rattle.format.specs.declared.Pixel.{Pixel}
 use Rattle.format.specs.Picture.{Picture, block, inOrder}
 use Rattle.format.specs.Predictor.{residuals, gained, fromResiduals}
 use Rattle.format.specs.Color.{transformColor, inverseColor, colorStored, colorRebuilt}
 use Rattle.format.specs.SubtractGreen.{subtractGreen, addGreen, greenStored, greenRebuilt}
-use Rattle.format.specs.ColorTable.{perPixel, range, packedWidth, indexIn, entry, unpacked, indexOf, digits, indexAt, packed}
+use Rattle.format.specs.ColorTable.{perPixel, range, packedWidth, indexIn, entry, unpacked, indexOf, digits, columnAt, indexAt, packed}
 use Rattle.format.specs.Pixel.{pixel}
 use Rattle.format.proofs.Choice.{if-same}
 use Rattle.format.proofs.Predictor.{predicted-earlier}
-use Rattle.format.proofs.ColorTable.{perPixel-pos, column-packed, ceiling-pos}
+use Rattle.format.proofs.ColorTable.{perPixel-pos, column-packed, ceiling-pos, column-inside}
 
 -- the first n pixels are the same
 abbrev pub Alike : ℕ → Picture → Picture → Type 0
@@ -93,4 +92,4 @@ module _ (w h size : ℕ) (e : Picture) (pos : 0 < w) (f g : Picture) where
       below = div-lt-iff-lt-mul (ceiling-pos w n pos (perPixel-pos size)) .1 l
 
       index-same : (x : ℕ) → indexAt w size e f y x ≡ indexAt w size e g y x
-      index-same x = if-same (ltb x w) (λ t. ap (indexOf size e) (same (y * w + x) (digits-lt below (ltb-true x w t)))) (λ t. refl)
+      index-same x = ap (indexOf size e) (same (y * w + columnAt w x) (digits-lt below (column-inside w x pos)))

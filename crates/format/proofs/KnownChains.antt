@@ -70,7 +70,7 @@ worked =
     -- all four kinds
     ∷ (storeStrip 2 2 allKinds allData (2 ∷ 2 ∷ 2 ∷ 255 ∷ 2 ∷ 2 ∷ 2 ∷ 255 ∷ 3 ∷ 3 ∷ 3 ∷ 255 ∷ 3 ∷ 3 ∷ 3 ∷ 254 ∷ [])
     (nines 3)
-    is inGreen (1 ∷ 14 ∷ []) ++ nines 1)
+    is inGreen (1 ∷ 254 ∷ []) ++ nines 1)
     ∷ (rebuildImage 2 2 allKinds allData (inGreen (16 ∷ 7 ∷ 0 ∷ 0 ∷ []))
     is blacks 2 ++ (1 ∷ 1 ∷ 1 ∷ 254 ∷ 2 ∷ 2 ∷ 2 ∷ 255 ∷ []))
     ∷ []

@@ -156,7 +156,7 @@ worked =
     is 289 ∷ 289 ∷ [])
     ∷ (retouchStrip 2 2 green [] (blacks 4) (nines 4) 0 1 (pixel 9 3 2 1)
     is nines 2 ++ (6 ∷ 3 ∷ 255 ∷ 1 ∷ []) ++ nines 1)
-    ∷ (retouchStrip 3 2 (table 5) (reds 5) (blacks 6) (nines 4) 2 1 (red 4) is nines 3 ++ (0 ∷ 4 ∷ 0 ∷ 255 ∷ []))
+    ∷ (retouchStrip 3 2 (table 5) (reds 5) (blacks 6) (nines 4) 2 1 (red 4) is nines 3 ++ (0 ∷ 68 ∷ 0 ∷ 255 ∷ []))
     ∷ (retouchStrip 3 2 (table 5) (reds 5) (blacks 6) (nines 4) 1 1 (red 4)
     is nines 2 ++ (0 ∷ 64 ∷ 0 ∷ 255 ∷ []) ++ nines 1)
     -- the predictor before the table: 5 by 2, spots 1, 2, 5, 6 and 7 are in records 0, 0, 2, 2 and 2 of two to a row

@@ -113,18 +113,19 @@ worked =
     is copies 4 (pixel 32 32 0 0) ++ (64 ∷ 32 ∷ 0 ∷ 0 ∷ []))
     -- kind 2
     ∷ (storeStrip 1 1 green [] (4 ∷ 10 ∷ 9 ∷ 7 ∷ []) (zeros 1) is 250 ∷ 10 ∷ 255 ∷ 7 ∷ [])
-    -- sizes 1 and 2 pack eight indices, 3 and 4 four, 5 and 16 two, 17 one; unused bits are zero, bytes beyond are kept
+    -- sizes 1 and 2 pack eight indices, 3 and 4 four, 5 and 16 two, 17 one; unused positions have the last index again,
+    -- bytes beyond are kept
     ∷ (storeStrip 9 1 (table 1) (reds 1) (blacks 9) sevens is inGreen (0 ∷ 0 ∷ 7 ∷ []))
     ∷ (storeStrip 9 1 (table 2) (reds 2) (inRed (1 ∷ 0 ∷ 1 ∷ 1 ∷ 0 ∷ 0 ∷ 0 ∷ 1 ∷ 1 ∷ [])) sevens
-    is inGreen (141 ∷ 1 ∷ 7 ∷ []))
-    ∷ (storeStrip 5 1 (table 3) (reds 3) (inRed (1 ∷ 2 ∷ 0 ∷ 1 ∷ 2 ∷ [])) sevens is inGreen (73 ∷ 2 ∷ 7 ∷ []))
-    ∷ (storeStrip 5 1 (table 4) (reds 4) (inRed (3 ∷ 2 ∷ 0 ∷ 1 ∷ 3 ∷ [])) sevens is inGreen (75 ∷ 3 ∷ 7 ∷ []))
-    ∷ (storeStrip 3 1 (table 5) (reds 5) (inRed (4 ∷ 1 ∷ 3 ∷ [])) sevens is inGreen (20 ∷ 3 ∷ 7 ∷ []))
-    ∷ (storeStrip 3 1 (table 16) (reds 16) (inRed (2 ∷ 15 ∷ 9 ∷ [])) sevens is inGreen (242 ∷ 9 ∷ 7 ∷ []))
+    is inGreen (141 ∷ 255 ∷ 7 ∷ []))
+    ∷ (storeStrip 5 1 (table 3) (reds 3) (inRed (1 ∷ 2 ∷ 0 ∷ 1 ∷ 2 ∷ [])) sevens is inGreen (73 ∷ 170 ∷ 7 ∷ []))
+    ∷ (storeStrip 5 1 (table 4) (reds 4) (inRed (3 ∷ 2 ∷ 0 ∷ 1 ∷ 3 ∷ [])) sevens is inGreen (75 ∷ 255 ∷ 7 ∷ []))
+    ∷ (storeStrip 3 1 (table 5) (reds 5) (inRed (4 ∷ 1 ∷ 3 ∷ [])) sevens is inGreen (20 ∷ 51 ∷ 7 ∷ []))
+    ∷ (storeStrip 3 1 (table 16) (reds 16) (inRed (2 ∷ 15 ∷ 9 ∷ [])) sevens is inGreen (242 ∷ 153 ∷ 7 ∷ []))
     ∷ (storeStrip 2 1 (table 17) (reds 17) (inRed (16 ∷ 3 ∷ [])) sevens is inGreen (16 ∷ 3 ∷ 7 ∷ []))
     -- each row starts a record
     ∷ (storeStrip 3 2 (table 5) (reds 5) (inRed (4 ∷ 1 ∷ 3 ∷ 2 ∷ 0 ∷ 4 ∷ [])) (zeros 4)
-    is inGreen (20 ∷ 3 ∷ 2 ∷ 4 ∷ []))
+    is inGreen (20 ∷ 51 ∷ 2 ∷ 68 ∷ []))
     ∷ (rebuildImage 3 2 (table 5) (reds 5) (inGreen (20 ∷ 3 ∷ 2 ∷ 4 ∷ 7 ∷ 7 ∷ 8 ∷ []))
     is inRed (4 ∷ 1 ∷ 3 ∷ 2 ∷ 0 ∷ 4 ∷ []) ++ (0 ∷ 8 ∷ 0 ∷ 255 ∷ []))
     -- the index is in byte 1, lowest bits first; one at or past size gives (0, 0, 0, 0)

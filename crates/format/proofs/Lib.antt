@@ -27,6 +27,7 @@ pub mod Spots
 pub mod Unmade
 pub mod Steps
 pub mod Calls
+pub mod Earlier
 pub mod Retouching
 pub mod Report
 pub mod Reporting
@@ -38,4 +39,5 @@ pub mod KnownRefusals
 pub mod KnownChains
 pub mod KnownRetouches
 pub mod KnownReports
+pub mod KnownRowEnds
 pub mod Pinned

@@ -5,9 +5,10 @@ use mathlib.Core.Path.{_≡_, refl, sym, ap}
 use Prim.Native.Nat.{ℕ, zero, suc, _+_, _-_, _*_, _/_, _%_, _<_, _≤_}
 use native.Mathlib.Nat.{div-add-mod', mod-lt}
 use native.Mathlib.Omega.{arith}
-use borrow.Author.Tests.{ltb-true, eqb-true, eqb-false, ne-eqb}
+use native.Mathlib.Decide.{decLt}
+use borrow.Author.Tests.{eqb-true, eqb-false, ne-eqb}
 use lib.Arith.{digits-div, digits-mod}
-use lib.Dec.{eqb, ltb}
+use lib.Dec.{eqb}
 use Rattle.format.specs.Indices.{union}
 use Rattle.format.specs.declared.Pixel.{Pixel}
 use Rattle.format.specs.declared.Step.{Step}
@@ -16,7 +17,7 @@ use Rattle.format.specs.Picture.{Picture, block, paint}
 use Rattle.format.specs.Predictor.{predicted, residuals}
 use Rattle.format.specs.Color.{transformColor, colorStored}
 use Rattle.format.specs.SubtractGreen.{subtractGreen, greenStored}
-use Rattle.format.specs.ColorTable.{perPixel, range, packedWidth, indexOf, indexAt, packed}
+use Rattle.format.specs.ColorTable.{perPixel, range, packedWidth, indexOf, columnAt, indexAt, packed}
 use Rattle.format.specs.Stages.{partOf, forward, stored}
 use Rattle.format.specs.Retouch.{fiveSpots, packedOver, placeOf, spotsOf, spotRecords}
 use Rattle.format.proofs.Choice.{if-same}
@@ -24,6 +25,7 @@ use Rattle.format.proofs.Inside.{digits-same}
 use Rattle.format.proofs.Indices.{In, in-union}
 use Rattle.format.proofs.Picture.{paint-other}
 use Rattle.format.proofs.Predictor.{row-above}
+use Rattle.format.proofs.ColorTable.{perPixel-pos, ceiling-pos, first-inside, column-own, column-last}
 use Rattle.format.proofs.ByKind.{kinds, forward-0, forward-1, forward-2, forward-3}
 
 -- f and g agree away from ps
@@ -114,9 +116,30 @@ packed-back w size r k small inside =
     let v = packedWidth size w in
     rw (digits-div (r / v) inside, digits-mod (r / v) inside, digits-div (r % v) small) (sym (div-add-mod' r v))
 
-packed-local : (w size : ℕ) (e f g : Picture) (r : ℕ) → ((q : ℕ) → In r (packedOver w size q ∷ []) → f q ≡ g q) → packed w size e f r ≡ packed w size e g r
+-- so is the column of an unused position
+column-back : (w size r k : ℕ) → 0 < w → k < perPixel size
+    → r ≡ packedOver w size (r / packedWidth size w * w + columnAt w (r % packedWidth size w * perPixel size + k))
+column-back w size r k pos small = go (decLt (first + k) w)
+  where
+    n : ℕ
+    n = perPixel size
+
+    first : ℕ
+    first = r % packedWidth size w * n
+
+    here : first < w
+    here = first-inside w n (r % packedWidth size w) (perPixel-pos size) (mod-lt r (ceiling-pos w n pos (perPixel-pos size)))
+
+    go : Dec (first + k < w) → r ≡ packedOver w size (r / packedWidth size w * w + columnAt w (first + k))
+    go (yes l) = rw (column-own w (first + k) l) (packed-back w size r k small l)
+    go (no past) =
+        let l = here in
+        let m : first + (w - 1 - first) ≡ w - 1 = omega arith in
+        rw (column-last w (first + k) (omega arith)) (rw m at (packed-back w size r (w - 1 - first) (omega arith) (omega arith)))
+
+packed-local : (w size : ℕ) (e f g : Picture) (r : ℕ) → 0 < w → ((q : ℕ) → In r (packedOver w size q ∷ []) → f q ≡ g q) → packed w size e f r ≡ packed w size e g r
 unfolding packed
-packed-local w size e f g r h =
+packed-local w size e f g r pos h =
     ap (λ (b : ℕ). pixel 0 b 0 255) (digits-same (range n) n (λ k. indexAt w size e f y (x k)) (λ k. indexAt w size e g y (x k)) same)
   where
     n : ℕ
@@ -129,7 +152,7 @@ packed-local w size e f g r h =
     x k = r % packedWidth size w * n + k
 
     same : (k : ℕ) → k < n → indexAt w size e f y (x k) ≡ indexAt w size e g y (x k)
-    same k l = if-same (ltb (x k) w) (λ t. ap (indexOf size e) (h (y * w + x k) (List·Memᴰ·head (packed-back w size r k l (ltb-true (x k) w t))))) (λ t. refl)
+    same k l = ap (indexOf size e) (h (y * w + columnAt w (x k)) (List·Memᴰ·head (column-back w size r k pos l)))
 
 -- one record, and chains
 
@@ -140,7 +163,7 @@ forward-local s ds pos known f g r h =
     (λ e. cc (forward-0 s ds f e, forward-0 s ds g e, residuals-local w r f g (λ q i. h q (rw (spots-predictor s q e) i)) (s .bits) d pos))
     (λ e. cc (forward-1 s ds f e, forward-1 s ds g e, color-local f g r (own (λ z. omega arith) (λ z. omega arith)) w (s .bits) d))
     (λ e. cc (forward-2 s ds f e, forward-2 s ds g e, green-local f g r (own (λ z. omega arith) (λ z. omega arith))))
-    (λ e. cc (forward-3 s ds f e, forward-3 s ds g e, packed-local w (s .size) d f g r (λ q i. h q (rw (spots-table s q e) i))))
+    (λ e. cc (forward-3 s ds f e, forward-3 s ds g e, packed-local w (s .size) d f g r pos (λ q i. h q (rw (spots-table s q e) i))))
   where
     w : ℕ
     w = s .width

@@ -1,7 +1,7 @@
 -- The color indexing transform (RFC 9649, "Color Indexing Transform"; document 01, module 4). `size` is how many
 -- entries the table has, `e` gives them.
 use mathlib.Core.Bool.{Bool}
-use Prim.Native.Nat.{ℕ, zero, suc, _+_, _*_, _/_, _%_, _^_}
+use Prim.Native.Nat.{ℕ, zero, suc, _+_, _-_, _*_, _/_, _%_, _^_}
 use lib.Dec.{leb, ltb}
 use Rattle.format.specs.Choice.{if_then_else_, every}
 use Rattle.format.specs.declared.Pixel.{Pixel}
@@ -66,14 +66,18 @@ unfoldable pub digits : ℕ → ℕ → (ℕ → ℕ) → ℕ
 digits u zero g = 0
 digits u (suc n) g = g 0 + u * digits u n (λ k. g (suc k))
 
--- the index packed for column x of row y: unused high bits of a row's last record are zero
-abbrev pub indexAt : ℕ → ℕ → Picture → Picture → ℕ → ℕ → ℕ
-indexAt w size e f y x = if ltb x w then indexOf size e (f (y * w + x)) else 0
+-- a packed row has n positions in each record, and column x has position x; the unused positions of the last record
+-- have the row's last column again (document 02, ii)
+abbrev pub columnAt : ℕ → ℕ → ℕ
+columnAt w x = if ltb x w then x else w - 1
 
--- record number j of row y
-abbrev pub packedAt : ℕ → ℕ → Picture → Picture → ℕ → ℕ → Pixel
-packedAt w size e f j y =
-    pixel 0 (digits (range (perPixel size)) (perPixel size) (λ k. indexAt w size e f y (j * perPixel size + k))) 0 255
+-- the index packed at position x of row y
+abbrev pub indexAt : ℕ → ℕ → Picture → Picture → ℕ → ℕ → ℕ
+indexAt w size e f y x = indexOf size e (f (y * w + columnAt w x))
+
+-- record number j of a row that has index i x at position x
+abbrev pub packedAt : ℕ → (ℕ → ℕ) → ℕ → Pixel
+packedAt size i j = pixel 0 (digits (range (perPixel size)) (perPixel size) (λ k. i (j * perPixel size + k))) 0 255
 
 unfoldable pub packed : ℕ → ℕ → Picture → Picture → Picture
-packed w size e f r = packedAt w size e f (r % packedWidth size w) (r / packedWidth size w)
+packed w size e f r = packedAt size (indexAt w size e f (r / packedWidth size w)) (r % packedWidth size w)

@@ -18,6 +18,7 @@ pub mod Made
 pub mod Lists
 pub mod Retouch
 pub mod Calls
+pub mod Earlier
 pub mod Desk
 pub mod Report
 pub mod Promises

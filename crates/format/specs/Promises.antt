@@ -1,5 +1,5 @@
--- What is promised: the demands of document 00, and what document 02 (i) asks of reports, on the bytes of the calls. It
--- is proved in proofs/Demands.antt.
+-- What is promised: the demands of document 00, and what document 02 asks of strips stored earlier (ii) and of reports
+-- (i), on the bytes of the calls. It is proved in proofs/Demands.antt.
 use mathlib.Core.Bool.{true, false, _&&_}
 use mathlib.Core.List.{List}
 use mathlib.Core.Logic.{_⊎_, _↔_}
@@ -15,6 +15,7 @@ use Rattle.format.specs.Chain.{count}
 use Rattle.format.specs.Refusals.{accepted, sizeRefusal, ValidChain}
 use Rattle.format.specs.Retouch.{differ, answer}
 use Rattle.format.specs.Calls.{records, storable, rebuildAnswer, rebuildImage, storeAnswer, storeStrip, inside, retouchAnswer, retouchPicture, retouchStrip}
+use Rattle.format.specs.Earlier.{earlierAnswer, earlierStrip}
 use Rattle.format.specs.Lists.{inTurn, leftBy, answersTo, acceptedCalls, total}
 use Rattle.format.specs.Desk.{Retouch, Buffers, paintedBy, desk, callAnswer, callLeaves, call}
 use Rattle.format.specs.Report.{pixelsOf, pixelsOfNone, counter, colorCount, counterCount, colorList, reportAnswer, reportCounters, Map, mapAnswer, report, sum}
@@ -88,6 +89,19 @@ module _ (w h : ℕ) (cs ds : List ℕ) where
       → 4 * (h * w) ≤ length image
       → SameFront (records w h cs) image (storeStrip w h cs ds picture strip)
       → (rebuildAnswer w h cs ds image ≡ 0) × (rebuildImage w h cs ds image ≡ written (h * w) (pixels picture) image)
+
+  -- document 02 (ii): so does rebuilding a strip that was stored earlier, under document 01's zero bits; storing answers
+  -- as it did then, and so accepts what was rebuilt
+  abbrev pub RebuildsEarlier : Type 0
+  RebuildsEarlier = (picture strip image : List ℕ) → AreBytes picture
+      → earlierAnswer w h cs ds picture strip ≡ 0
+      → 4 * (h * w) ≤ length image
+      → SameFront (records w h cs) image (earlierStrip w h cs ds picture strip)
+      → (rebuildAnswer w h cs ds image ≡ 0) × (rebuildImage w h cs ds image ≡ written (h * w) (pixels picture) image)
+
+  abbrev pub AnswersAsEarlier : Type 0
+  AnswersAsEarlier = (picture strip : List ℕ)
+      → storeAnswer w h cs ds picture strip ≡ earlierAnswer w h cs ds picture strip
 
   -- demand 2: without a color table storing a rebuilt strip gives that strip, every byte beyond kept
   abbrev pub StoresRebuilt : Type 0

@@ -2,15 +2,16 @@
 use mathlib.Core.List.{List}
 use mathlib.Core.Path.{_≡_, sym, subst}
 use Prim.Native.Nat.{ℕ, suc, _-_, _+_, _*_, _/_, _%_, _<_, _≤_}
-use native.Mathlib.Nat.{mod-lt, mul-le-mul}
+use native.Mathlib.Nat.{mod-lt}
 use native.Mathlib.Omega.{arith}
 use lib.ListN.{length}
 use Rattle.format.specs.Picture.{pixels}
 use Rattle.format.specs.Sizes.{Sized}
-use Rattle.format.specs.ColorTable.{packedWidth}
+use Rattle.format.specs.ColorTable.{perPixel, packedWidth}
 use Rattle.format.proofs.Picture.{paint-at, paint-other}
+use Rattle.format.proofs.ColorTable.{perPixel-pos, first-inside}
 use Rattle.format.proofs.ByKind.{narrowed-table, narrowed-other}
-use Rattle.format.proofs.Stages.{narrowed-pos, narrowed-fewer}
+use Rattle.format.proofs.Stages.{narrowed-pos}
 use Rattle.chain.specs.declared.Chain.{Chain}
 use Rattle.chain.specs.Valid.{Valid, HoldsPicture, stepsOf}
 use Rattle.chain.proofs.Valid.{step-sized}
@@ -65,7 +66,6 @@ module _ (c : Chain) (ds : List ℕ) (v : Valid c ds) (k : ℕ) (u : k < c .coun
     pub records-row : (q y : ℕ) → y ≡ q / p → q < itemsAfter c (suc k) → y < c .height
     records-row q y e l = rw e (row-inside p q records-some (c .height) (rw (row, ← narrowed-table (stepsOf c k) table) l))
 
-    pub records-column : (q x m : ℕ) → x ≡ q % p → m ≤ 8 → x * m ≤ 131072
-    records-column q x m e l =
-        let f : p ≤ stepsOf c k .width = rw (row, ← narrowed-table (stepsOf c k) table) (narrowed-fewer (stepsOf c k)) in
-        mul-le-mul {n₁ = x} {m₁ = m} {n₂ = 16384} {m₂ = 8} (omega (arith, mod-lt q records-some, sized-here .narrow)) l
+    -- a record's first position is a column
+    pub records-column : (q x n : ℕ) → x ≡ q % p → n ≡ perPixel (stepsOf c k .size) → x * n < stepsOf c k .width
+    records-column q x n e m = rw m (first-inside (stepsOf c k .width) (perPixel (stepsOf c k .size)) x (perPixel-pos (stepsOf c k .size)) (omega (arith, mod-lt q records-some, row)))

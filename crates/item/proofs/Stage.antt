@@ -1,5 +1,5 @@
 -- What a record makes of the stage before it, by its kind.
-use mathlib.Core.Bool.{Bool, true, false, not, _||_}
+use mathlib.Core.Bool.{Bool, not, _||_, or-false}
 use mathlib.Core.List.{List, [], _∷_}
 use mathlib.Core.Path.{_≡_, refl, sym, ap, _∙_}
 use Prim.Native.Nat.{ℕ, suc, _+_, _-_, _*_, _/_, _%_, _<_, _≤_}
@@ -23,14 +23,10 @@ use Rattle.format.specs.declared.Made.the-variants.{Item}
 use Rattle.item.specs.declared.place.Place.{Place}
 use Rattle.item.specs.Made.{mapped, residualMade}
 use Rattle.item.specs.Neighbors.{neighborMade, modeOf, blockOf}
-use Rattle.item.specs.Table.{recordFrom, recordMade, joinedMade, Room}
+use Rattle.item.specs.Table.{recordFrom, recordMade, joinedMade, repeatedMade, Room}
 use Rattle.item.proofs.WhenMade.{mapped-made}
 use Rattle.item.proofs.Named.{residual-stage}
-use Rattle.item.proofs.Columns.{columns-more, columns-room}
-
-or-false : (a : Bool) → (a || false) ≡ a
-or-false true = refl
-or-false false = refl
+use Rattle.item.proofs.Columns.{columns-more, columns-last, columns-room}
 
 some-same : (t u : ℕ → Bool) → ((q : ℕ) → t q ≡ u q) → (qs : List ℕ) → some t qs ≡ some u qs
 some-same t u e [] = refl
@@ -108,8 +104,12 @@ module _ (steps : ℕ → Step) (ds : List ℕ) (k : ℕ) (f : Picture) where
       → first ≡ item (y * s .width + x) → rest ≡ recordMade steps ds k f y m (x + 1) → r ≡ recordMade steps ds k f y n x
   record-next e y = columns-more (s .width) (s .size) (partOf s ds) before y (lost steps ds k f) was (lost-table e)
 
-  pub record-room : s .kind ≡ 3 → s .size ≤ 256 → (y n x : ℕ) (rest : Made) → rest ≡ recordMade steps ds k f y n x → n < perPixel (s .size) → Room (s .size) rest
-  record-room e small y n x rest q l p a = columns-room (s .width) (s .size) (partOf s ds) before y (lost steps ds k f) was (lost-table e) small n x l p (sym q ∙ a)
+  pub record-last : s .kind ≡ 3 → (y n m x : ℕ) (r first : Made) → n ≡ suc m → s .width ≡ x + 1 → r ≡ repeatedMade (s .size) (partOf s ds) n first
+      → first ≡ item (y * s .width + x) → r ≡ recordMade steps ds k f y n x
+  record-last e y = columns-last (s .width) (s .size) (partOf s ds) before y (lost steps ds k f) was (lost-table e)
+
+  pub record-room : s .kind ≡ 3 → s .size ≤ 256 → (y n x : ℕ) (rest : Made) → rest ≡ recordMade steps ds k f y n x → n < perPixel (s .size) → x < s .width → Room (s .size) rest
+  record-room e small y n x rest q l inside p a = columns-room (s .width) (s .size) (partOf s ds) before y (lost steps ds k f) was (lost-table e) small n x l inside p (sym q ∙ a)
 
 -- the stage that the code counts to
 module _ (steps : ℕ → Step) (ds : List ℕ) (k : ℕ) (f : Picture) (q : ℕ) where

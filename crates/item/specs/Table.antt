@@ -1,4 +1,4 @@
--- Records of indices, column by column.
+-- Records of indices, position by position.
 use mathlib.Core.List.{List}
 use mathlib.Core.Path.{_≡_}
 use Prim.Native.Nat.{ℕ, _+_, _*_, _≤_}
@@ -14,9 +14,10 @@ use Rattle.format.specs.ValidStep.{ValidTable}
 use Rattle.format.specs.Stages.{partOf, stored}
 use Rattle.format.specs.Indices.{some}
 use Rattle.format.specs.Made.{columns, lost, made}
+use Rattle.color_table.specs.Pack.{uniform}
 use Rattle.item.specs.Made.{whenMade}
 
--- the record of n columns of row y, from x on
+-- the record of n positions of row y, from x on
 unfoldable pub recordFrom : ℕ → ℕ → Picture → Picture → ℕ → ℕ → ℕ → Pixel
 recordFrom w size e f y n x = pixel 0 (digits (range (perPixel size)) n (λ k. indexAt w size e f y (x + k))) 0 255
 
@@ -26,12 +27,17 @@ recordMade steps ds k f y n x =
     made (some (lost steps ds k f) (columns (steps k .width) y n x))
     (recordFrom (steps k .width) (steps k .size) (partOf (steps k) ds) (stored steps ds k f) y n x)
 
--- the record of a column and of those after it, by the record of these
+-- the record of a column and of the positions after it, by the record of these
 unfoldable pub joinedMade : ℕ → Picture → Made → Made → Made
 joinedMade size e first rest =
     whenMade first
     (λ v. whenMade rest
     (λ p. if hasEntry size e v then Item (pixel 0 (indexOf size e v + range (perPixel size) * p .green) 0 255) else Missing))
+
+-- the record of n positions that all have an item's index
+unfoldable pub repeatedMade : ℕ → Picture → ℕ → Made → Made
+repeatedMade size e n m =
+    whenMade m (λ v. if hasEntry size e v then Item (uniform (range (perPixel size)) n size e v) else Missing)
 
 -- one more index goes into a record
 abbrev pub Room : ℕ → Made → Type 0

@@ -17,6 +17,7 @@ use crate::predict::black_of;
 use crate::predict::names;
 use crate::table::joined;
 use crate::table::record_of;
+use crate::table::repeated;
 use crate::transform::color_of;
 use crate::transform::green_of;
 use crate::transform::residual_of;
@@ -136,8 +137,8 @@ fn neighbor(
     item(chain, k, q, data, picture, point)
 }
 
-// The record of n columns of row y from x on, by the table that is record k: those past the row's end are not looked
-// at.
+// The record of n positions of row y from column x on, by the table that is record k. The row's last column has the
+// positions after it too.
 fn packed(
     chain: Chain,
     k: usize,
@@ -149,7 +150,7 @@ fn packed(
     point: Point,
 ) -> Made
     requires { ⌜ Source chain (now «data») (now picture) × (k < chain .count) × (stepsOf chain k .kind ≡ 3) ⌝ }
-    requires { ⌜ (y < chain .height) × (n ≤ perPixel (stepsOf chain k .size)) ⌝ }
+    requires { ⌜ (y < chain .height) × (x < stepsOf chain k .width) × (n ≤ perPixel (stepsOf chain k .size)) ⌝ }
     ensures { λ r. ⌜ r ≡ recordMade (stepsOf chain) (now («data» .entry)) k
         (shown (now (picture .entry)) point) y n x ⌝ }
 {
@@ -157,11 +158,11 @@ fn packed(
     if n == 0 {
         return Made::Item(record_of(0));
     }
-    if s.width <= x {
-        return Made::Item(record_of(0));
-    }
     let q = expanded_index(x, y, Expanded(s.width));
     let first = item(chain, k, q, data, picture, point);
+    if s.width <= x + 1 {
+        return repeated(s, data, first, n);
+    }
     let rest = packed(chain, k, n - 1, x + 1, y, data, picture, point);
     joined(s, data, first, rest)
 }

@@ -1,42 +1,37 @@
 -- A row by itself, and the same row in its picture: its records, and its acceptance.
 use mathlib.Core.Bool.{true}
 use mathlib.Core.List.{List}
-use mathlib.Core.Path.{_≡_, refl, ap, _∙_}
-use Prim.Native.Nat.{ℕ, zero, suc, _+_, _*_, _<_, _≤_}
+use mathlib.Core.Path.{_≡_, ap, _∙_}
+use Prim.Native.Nat.{ℕ, _+_, _*_, _<_, _≤_}
 use native.Mathlib.Nat.{mod-eq-of-lt, div-eq-of-lt}
 use native.Mathlib.Omega.{arith}
-use borrow.Author.Tests.{ltb-true}
 use lib.Arith.{digits-lt, digits-div, digits-mod}
-use lib.Dec.{ltb}
 use lib.ListN.{length, drop, length-drop}
 use lib.Seq.{length-take-le}
 use Rattle.format.specs.declared.Step.{Step}
 use Rattle.format.specs.Pixel.{pixel}
 use Rattle.format.specs.Picture.{Picture, pixels}
-use Rattle.format.specs.ColorTable.{perPixel, range, packedWidth, indexOf, hasEntry, haveEntries, digits, indexAt, packed}
+use Rattle.format.specs.ColorTable.{perPixel, range, packedWidth, indexOf, hasEntry, haveEntries, columnAt, indexAt, packed}
 use Rattle.format.specs.Sizes.{Sized}
 use Rattle.format.specs.ValidStep.{ValidStep}
-use Rattle.format.proofs.Choice.{if-same, every-at, every-all}
-use Rattle.format.proofs.ColorTable.{perPixel-pos}
+use Rattle.format.proofs.Choice.{every-at, every-all}
+use Rattle.format.proofs.ColorTable.{perPixel-pos, first-inside, column-inside}
+use Rattle.format.proofs.Inside.{digits-same}
 use Rattle.color_table.proofs.Rows.{packed-fewer}
 use Rattle.format.specs.Stages.{dataOf}
 use Rattle.store.specs.Stage.{TableStep}
 use Rattle.pixel.specs.Held.{HoldsRow}
 
-digits-same : (u n : ℕ) (g h : ℕ → ℕ) → ((k : ℕ) → g k ≡ h k) → digits u n g ≡ digits u n h
-unfolding digits
-digits-same u zero g h q = refl
-digits-same u (suc n) g h q = cc (q 0, digits-same u n (λ k. g (suc k)) (λ k. h (suc k)) (λ k. q (suc k)))
-
 pub packed-in : (w size y : ℕ) (e f g : Picture) (j : ℕ) → j < packedWidth size w → ((x : ℕ) → x < w → f x ≡ g (y * w + x)) → packed w size e f j ≡ packed w size e g (y * packedWidth size w + j)
 unfolding packed
 packed-in w size y e f g j l h =
     let n = perPixel size in
+    let here = first-inside w n j (perPixel-pos size) l in
     let z : (x : ℕ) → 0 * w + x ≡ x = λ x. omega arith in
     rw (mod-eq-of-lt l, div-eq-of-lt l, digits-div y l, digits-mod y l)
     (ap (λ (d : ℕ). pixel 0 d 0 255)
     (digits-same (range n) n (λ k. indexAt w size e f 0 (j * n + k)) (λ k. indexAt w size e g y (j * n + k))
-    (λ k. if-same (ltb (j * n + k) w) (λ t. ap (λ (x : ℕ). indexOf size e (f x)) (z (j * n + k)) ∙ ap (indexOf size e) (h (j * n + k) (ltb-true (j * n + k) w t))) (λ t. refl))))
+    (λ k m. ap (λ (x : ℕ). indexOf size e (f x)) (z (columnAt w (j * n + k))) ∙ ap (indexOf size e) (h (columnAt w (j * n + k)) (column-inside w (j * n + k) (omega arith))))))
 
 -- a row of an accepted picture
 pub row-entries : (w h size y : ℕ) (e f : Picture) (xs : List ℕ) → haveEntries size e (h * w) f ≡ true → HoldsRow f y w xs → y < h → haveEntries size e w (pixels xs) ≡ true

@@ -75,18 +75,20 @@ pub fn five() {
     );
 }
 
-fn of_two(name: &[u8], picture: &mut [u8], strip: &mut [u8], color: [u8; 4]) {
+fn of_two(name: &[u8], picture: &mut [u8], strip: &mut [u8], x: u32, color: [u8; 4]) {
     let entries = [1, 2, 3, 4, 5, 6, 7, 8];
     let chain = color_table(2, 8);
-    retouch(name, 3, 1, &chain, &entries, picture, strip, 1, 0, color);
+    retouch(name, 3, 1, &chain, &entries, picture, strip, x, 0, color);
 }
 
-// A color that the table lacks, and one that it has.
+// A color that the table lacks, and one that it has; in the last column it goes to the unused bits too.
 pub fn entries() {
     let mut picture = [1, 2, 3, 4, 1, 2, 3, 4, 1, 2, 3, 4];
     let mut strip = [0, 0, 0, 255, 165, 165];
     let lacks = [5, 6, 7, 9];
-    of_two(b"table of 2, no entry", &mut picture, &mut strip, lacks);
+    of_two(b"table of 2, no entry", &mut picture, &mut strip, 1, lacks);
     let has = [5, 6, 7, 8];
-    of_two(b"table of 2, an entry", &mut picture, &mut strip, has);
+    of_two(b"table of 2, an entry", &mut picture, &mut strip, 1, has);
+    let name = b"table of 2, the last column";
+    of_two(name, &mut picture, &mut strip, 2, has);
 }

@@ -49,7 +49,8 @@ fn three(name: &[u8], chain: [u8; 16], packed: [u8; 12]) {
     both(name, 3, 1, &chain, &entries(), &mut image, &mut strip);
 }
 
-// How many indices the format bundles into a pixel of 3 by 1, by the table's size.
+// How many indices the format bundles into a pixel of 3 by 1, by the table's size. Unused bits are zero, as in strips
+// stored earlier; storing puts the last index there.
 pub fn bundles() {
     let eight = [0, 5, 0, 255, 0, 0, 0, 0, 0, 0, 0, 0];
     three(b"bundles of 8", color_table(2, 8), eight);

@@ -1,7 +1,7 @@
 //! The plain desk of document 01: it holds a picture only, and stores it afresh for every answer.
 
 use super::chain::Chain;
-use super::forward::Pixel;
+use super::forward::{Pixel, Unused};
 use super::spots::mask;
 use super::{pixels, stored};
 use crate::calls::Retouch;
@@ -25,7 +25,7 @@ impl<'a> Desk<'a> {
         };
         let mut new = self.picture.clone();
         new[pixel] = retouch.color;
-        let Some(after) = stored(&self.chain, &new) else {
+        let Some(after) = stored(&self.chain, Unused::LastIndex, &new) else {
             return 22;
         };
         let before = self.stored();
@@ -46,6 +46,6 @@ impl<'a> Desk<'a> {
     }
 
     fn stored(&self) -> Vec<Pixel> {
-        stored(&self.chain, &self.picture).expect("the held picture is accepted")
+        stored(&self.chain, Unused::LastIndex, &self.picture).expect("the held picture is accepted")
     }
 }

@@ -1,11 +1,20 @@
-//! The forward transforms, pixel by pixel, as document 01 words them. Each makes new pixels of old
-//! ones; nothing is done in place.
+//! The forward transforms, pixel by pixel, as document 01 words them, and document 02 (ii) for the
+//! ends of rows. Each makes new pixels of old ones; nothing is done in place.
 
 use super::chain::indices_in_byte;
 
 pub type Pixel = [u8; 4];
 
 const FIRST: Pixel = [0, 0, 0, 255];
+
+/// What the unused positions of a row's last packed pixel hold.
+#[derive(Clone, Copy)]
+pub enum Unused {
+    /// The index of the row's last pixel, repeated: the rule of document 02 (ii).
+    LastIndex,
+    /// Zero bits: the rule of document 01, by which strips were stored earlier.
+    ZeroBits,
+}
 
 /// Subtracts its prediction from each pixel.
 pub fn predictor(width: u16, bits: u8, blocks: &[u8], pixels: &[Pixel]) -> Vec<Pixel> {
@@ -49,24 +58,35 @@ pub fn subtract_green(pixels: &[Pixel]) -> Vec<Pixel> {
 }
 
 /// Packs the lowest indices; nothing where a pixel has no entry.
-pub fn color_table(width: u16, entries: &[u8], pixels: &[Pixel]) -> Option<Vec<Pixel>> {
-    packed(width, entries, pixels).into_iter().collect()
+pub fn color_table(
+    width: u16,
+    entries: &[u8],
+    unused: Unused,
+    pixels: &[Pixel],
+) -> Option<Vec<Pixel>> {
+    packed(width, entries, unused, pixels).into_iter().collect()
 }
 
 /// The packed pixels; nothing for one in which a pixel has no entry.
-pub fn packed(width: u16, entries: &[u8], pixels: &[Pixel]) -> Vec<Option<Pixel>> {
+pub fn packed(width: u16, entries: &[u8], unused: Unused, pixels: &[Pixel]) -> Vec<Option<Pixel>> {
     let (entries, _) = entries.as_chunks::<4>();
     let n = usize::from(indices_in_byte(entries.len() as u16));
     let index = |pixel: &Pixel| entries.iter().position(|entry| entry == pixel);
-    let packed = |pixels: &[Pixel]| {
+    let packed = |row: &[Pixel], pixels: &[Pixel]| {
         let mut byte = 0;
-        for (place, pixel) in pixels.iter().enumerate() {
-            byte |= index(pixel)? << (8 / n * place);
+        for place in 0..n {
+            let held = match (pixels.get(place), unused) {
+                (Some(pixel), _) => index(pixel)?,
+                (None, Unused::LastIndex) => index(row.last()?)?,
+                (None, Unused::ZeroBits) => 0,
+            };
+            byte |= held << (8 / n * place);
         }
         Some([0, byte as u8, 0, 255])
     };
     let rows = pixels.chunks(width.into());
-    rows.flat_map(|row| row.chunks(n).map(packed)).collect()
+    let records = rows.flat_map(|row| row.chunks(n).map(move |pixels| (row, pixels)));
+    records.map(|(row, pixels)| packed(row, pixels)).collect()
 }
 
 /// The data pixel of the block that (x, y) is in.

@@ -2,7 +2,7 @@
 //! and the strip is the picture stored; the call has to answer elsewhere too.
 
 use super::chain::{Chain, Step, Transform};
-use super::forward::{named, packed, Pixel};
+use super::forward::{named, packed, Pixel, Unused};
 use super::spots::mask;
 use super::{forward, pixels};
 use crate::calls::Retouch;
@@ -65,7 +65,7 @@ fn made_by(step: &Step, items: &[Option<Pixel>]) -> Vec<Option<Pixel>> {
     let values: Vec<Pixel> = items.iter().map(|item| item.unwrap_or_default()).collect();
     if let Transform::ColorTable { entries, .. } = step.transform {
         // There is one table, so that no item is missing before it.
-        return packed(step.width, entries, &values);
+        return packed(step.width, entries, Unused::LastIndex, &values);
     }
     let can_be_made = |i: usize| match step.transform {
         Transform::Predictor { bits, blocks } => {
@@ -74,7 +74,7 @@ fn made_by(step: &Step, items: &[Option<Pixel>]) -> Vec<Option<Pixel>> {
         }
         _ => items[i].is_some(),
     };
-    let after = forward(step, &values).expect("only a table refuses");
+    let after = forward(step, Unused::LastIndex, &values).expect("only a table refuses");
     let item = |(i, value)| can_be_made(i).then_some(value);
     after.into_iter().enumerate().map(item).collect()
 }

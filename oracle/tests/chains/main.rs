@@ -1,5 +1,5 @@
-//! The exported calls on chains, held against the Rust (rebuilding) and against document 01's model
-//! (storing and refusals).
+//! The exported calls on chains, held against the Rust (rebuilding) and against the model of
+//! documents 01 and 02 (storing and refusals).
 
 #[cfg(not(rust_source))]
 #[test]
@@ -14,6 +14,9 @@ mod rebuild;
 
 #[cfg(rust_source)]
 mod refusals;
+
+#[cfg(rust_source)]
+mod row_ends;
 
 #[cfg(rust_source)]
 mod store;

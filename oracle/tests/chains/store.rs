@@ -34,8 +34,8 @@ fn long_sides_are_stored_and_rebuilt() {
     compared.finish(&[0]);
 }
 
-/// Every size of table alone, at widths about the ends of packed pixels: unused bits have to be
-/// zero, and the lowest of several indices is taken.
+/// Every size of table alone, at widths about the ends of packed pixels: unused positions have to
+/// hold the row's last index, and the lowest of several indices is taken.
 #[test]
 fn every_size_of_table_is_stored() {
     let mut compared = Compared::new("every size of table stored", 0x9159_015A_3070_DD17);

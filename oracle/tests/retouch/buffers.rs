@@ -4,6 +4,7 @@ use oracle::calls::{self, Retouch};
 use oracle::given::Given;
 use oracle::lent::Lent;
 use oracle::random::Xorshift;
+use oracle::row_ends::{row_ends, RowEnd};
 
 pub struct Buffers<'a> {
     given: &'a Given,
@@ -60,6 +61,11 @@ impl<'a> Buffers<'a> {
         for lent in [&self.chain, &self.data, &self.picture, &self.strip] {
             assert!(lent.kept_around(), "written outside, {}", given.shown());
         }
+    }
+
+    /// For buffers of exactly the lengths that are needed.
+    pub fn row_ends(&self) -> Vec<RowEnd> {
+        row_ends(self.given, self.picture.slice(), self.strip.slice())
     }
 
     /// The strip of what the picture's buffer holds, by the exported call.

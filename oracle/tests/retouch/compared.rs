@@ -91,8 +91,15 @@ impl Compared {
         self.lists += 1;
     }
 
-    /// From any buffers, and any chain: answers and bytes are the model's.
-    pub fn with_model(&mut self, given: &Given, picture: &[u8], strip: &[u8], list: &[Retouch]) {
+    /// From any buffers, and any chain: answers and bytes are the model's. Returns what both buffers
+    /// hold after the list.
+    pub fn with_model(
+        &mut self,
+        given: &Given,
+        picture: &[u8],
+        strip: &[u8],
+        list: &[Retouch],
+    ) -> (Vec<u8>, Vec<u8>) {
         let Given {
             width,
             height,
@@ -118,6 +125,7 @@ impl Compared {
         }
         buffers.check_kept();
         self.lists += 1;
+        (picture, strip)
     }
 
     fn saw(&mut self, answer: u32) {

@@ -28,4 +28,7 @@ mod named;
 mod refusals;
 
 #[cfg(rust_source)]
+mod row_ends;
+
+#[cfg(rust_source)]
 mod stack;

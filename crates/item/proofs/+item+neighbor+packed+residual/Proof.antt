@@ -10,9 +10,9 @@ use Rattle.chain.proofs.Parts.{table-kind}
 use Rattle.item.specs.Made.{mapped}
 use Rattle.item.proofs.WhenMade.{asked-none, asked-one}
 use Rattle.item.proofs.Inside.{row-small, item-inside, neighbor-inside}
-use Rattle.item.proofs.Stage.{made-first, made-later, made-1, made-2, made-3, residual-next, record-next, record-room}
+use Rattle.item.proofs.Stage.{made-first, made-later, made-1, made-2, made-3, residual-next, record-next, record-last, record-room}
 use Rattle.item.proofs.Before.{picture-room, counted, inside-later, inside-kept, sized-here, inside-before, place-here, block-here, records-some, records-row, records-column}
-use Rattle.item.proofs.Columns.{no-columns, columns-end}
+use Rattle.item.proofs.Columns.{no-columns}
 use borrow.Fn.Kinds.{In}
 use borrow.Fn.PlainCycle.{Measures, is, falls, and}
 use Rattle.item.proofs.item.Reads as item
@@ -37,6 +37,7 @@ use Rattle.item.proofs.predict.black_of.Reads as black-of-reads
 use Rattle.item.proofs.predict.names.Reads as names-reads
 use Rattle.item.proofs.table.joined.Reads as joined-reads
 use Rattle.item.proofs.table.record_of.Reads as record-of-reads
+use Rattle.item.proofs.table.repeated.Reads as repeated-reads
 use Rattle.item.proofs.transform.color_of.Reads as color-of-reads
 use Rattle.item.proofs.transform.green_of.Reads as green-of-reads
 use Rattle.item.proofs.transform.residual_of.Reads as residual-of-reads
@@ -155,14 +156,15 @@ pub +item+neighbor+packed+residual-spec : {M : Type 1} → statement M
     let p = c .before .before .before .before .before .before .before .before .before .pre .1 in
     let u = counted _ _ (c .before .before .before .before .before .before .if1 .left) (p .1) in
     let z = table-kind _ _ _ (p .0 .valid .step _ u) (c .before .before .before .before .match .rest) in
-    omega (arith, records-column (c .before .before .before .before .before .before .before .before .before .args .t1) _ (p .0 .valid) _ u _ z (c .before .before .packed-width .ensures) (c .before .before .before .before .before .before .before .before .before .args .q) _ _ (c .before .packed-place .ensures .0) (c .before .before .before .per-pixel .ensures .1 .most)))
+    omega (arith, records-column (c .before .before .before .before .before .before .before .before .before .args .t1) _ (p .0 .valid) _ u _ z (c .before .before .packed-width .ensures) (c .before .before .before .before .before .before .before .before .before .args .q) _ _ (c .before .packed-place .ensures .0) (c .before .before .before .per-pixel .ensures .0), sized-here (c .before .before .before .before .before .before .before .before .before .args .t1) _ (p .0 .valid) _ u .narrow))
     (λ c κs.
     let p = c .before .before .before .before .before .before .before .before .before .pre .1 in
     let d = c .before .before .before .before .before .before .if1 .left in
     let u = counted _ _ d (p .1) in
     let z = table-kind _ _ _ (p .0 .valid .step _ u) (c .before .before .before .before .match .rest) in
     let row = records-row (c .before .before .before .before .before .before .before .before .before .args .t1) _ (p .0 .valid) _ u _ z (c .before .before .packed-width .ensures) _ _ (c .before .packed-place .ensures .1) (inside-later (c .before .before .before .before .before .before .before .before .before .args .t1) _ _ d (p .2)) in
-    (omega (arith, c .before .before .before .before .before .before .before .before .before .pre .0, d, c .before .before .before .per-pixel .ensures .1 .most), ((p .0, u, z), (row, omega (arith, c .before .before .before .per-pixel .ensures .0)))))
+    let column = records-column (c .before .before .before .before .before .before .before .before .before .args .t1) _ (p .0 .valid) _ u _ z (c .before .before .packed-width .ensures) (c .before .before .before .before .before .before .before .before .before .args .q) _ _ (c .before .packed-place .ensures .0) (c .before .before .before .per-pixel .ensures .0) in
+    (omega (arith, c .before .before .before .before .before .before .before .before .before .pre .0, d, c .before .before .before .per-pixel .ensures .1 .most), ((p .0, u, z), (row, column, omega (arith, c .before .before .before .per-pixel .ensures .0)))))
     (λ c. c .residual .ensures ∙ made-later _ _ _ _ _ (c .before .before .before .if1 .left))
     (λ c.
     let a = c .before .before .stage-place .ensures in
@@ -205,6 +207,8 @@ pub +item+neighbor+packed+residual-spec : {M : Type 1} → statement M
       expanded-index-reads.Learnt,
       item-below t,
       item.Post,
+      repeated-reads.Asked,
+      repeated-reads.Learnt,
       packed-below t,
       packed.Post,
       joined-reads.Asked,
@@ -216,28 +220,36 @@ pub +item+neighbor+packed+residual-spec : {M : Type 1} → statement M
     (λ c. omega (arith, c .before .before .pre .1 .0 .1, c .before .before .pre .1 .0 .0 .valid .few))
     (λ c κs. search needs)
     (λ c. no-columns _ _ _ _ _ _ _ _ _ (c .before .if1 .taken) (c .record-of .ensures))
-    (λ c κs. search needs)
-    (λ c. columns-end _ _ _ _ _ _ _ _ _ (c .before .if2 .taken) (c .record-of2 .ensures))
     (λ c κs.
+    let p = c .before .before .before .before .pre .1 in
+    let s = sized-here (c .before .before .before .before .args .t1) _ (p .0 .0 .valid) _ (p .0 .1) in
+    omega (arith, row-small _ (c .before .before .before .before .args .y) (s .narrow) (omega (arith, s .low, p .1 .0)), p .1 .1, s .narrow))
+    (λ c κs.
+    let p = c .before .before .before .before .before .pre .1 in
+    (omega (arith, c .before .before .before .before .before .pre .0), (p .0 .0, omega (arith, p .0 .1), inside-before (c .before .before .before .before .before .args .t1) _ (p .0 .0 .valid) _ (p .0 .1) _ (rw (c .expanded-index .ensures) (item-inside _ _ _ _ (p .1 .1) (p .1 .0))))))
+    (λ c.
     let p = c .before .before .before .before .before .before .pre .1 in
-    let s = sized-here (c .before .before .before .before .before .before .args .t1) _ (p .0 .0 .valid) _ (p .0 .1) in
-    omega (arith, row-small _ (c .before .before .before .before .before .before .args .y) (s .narrow) (omega (arith, s .low, p .1 .0)), c .if2 .left, s .narrow))
+    omega (arith, p .1 .1, sized-here (c .before .before .before .before .before .before .args .t1) _ (p .0 .0 .valid) _ (p .0 .1) .narrow))
     (λ c κs.
-    let p = c .before .before .before .before .before .before .before .pre .1 in
-    (omega (arith, c .before .before .before .before .before .before .before .pre .0), (p .0 .0, omega (arith, p .0 .1), inside-before (c .before .before .before .before .before .before .before .args .t1) _ (p .0 .0 .valid) _ (p .0 .1) _ (rw (c .expanded-index .ensures) (item-inside _ _ _ _ (c .before .if2 .left) (p .1 .0))))))
-    (λ c. omega arith)
+    let p = c .before .before .before .before .before .before .before .before .pre .1 in
+    let v = p .0 .0 .valid .step _ (p .0 .1) in
+    (record { inside = v .inside; table = v .table (p .0 .2) }, omega (arith, p .1 .2, c .before .before .before .before .if1 .left)))
+    (λ c.
+    let p = c .before .before .before .before .before .before .before .before .before .pre .1 in
+    record-last _ _ _ _ (p .0 .2) _ _ (c .before .before .before .before .before .before .before .before .before .args .n - 1) _ _ _ (omega (arith, c .before .before .before .before .before .if1 .left)) (omega (arith, c .before .if2 .taken, p .1 .1)) (c .repeated .ensures) (rw (c .before .before .before .before .expanded-index .ensures) at (c .before .before .before .item .ensures)))
+    (λ c. omega (arith, c .before .before .before .before .if1 .left))
     (λ c.
     let p = c .before .before .before .before .before .before .before .before .pre .1 in
-    omega (arith, c .before .before .if2 .left, sized-here (c .before .before .before .before .before .before .before .before .args .t1) _ (p .0 .0 .valid) _ (p .0 .1) .narrow))
+    omega (arith, p .1 .1, sized-here (c .before .before .before .before .before .before .before .before .args .t1) _ (p .0 .0 .valid) _ (p .0 .1) .narrow))
     (λ c κs.
     let p = c .before .before .before .before .before .before .before .before .pre .1 in
-    (omega (arith, c .before .before .before .before .before .before .before .before .pre .0, c .before .before .before .before .if1 .left), (p .0, (p .1 .0, omega (arith, p .1 .1)))))
+    (omega (arith, c .before .before .before .before .before .before .before .before .pre .0, c .before .before .before .before .if1 .left), (p .0, (p .1 .0, c .if2 .left, omega (arith, p .1 .2)))))
     (λ c κs.
     let p = c .before .before .before .before .before .before .before .before .before .pre .1 in
     let v = p .0 .0 .valid .step _ (p .0 .1) in
     let t = v .table (p .0 .2) in
-    (record { inside = v .inside; table = t }, record-room (stepsOf (c .before .before .before .before .before .before .before .before .before .args .t1)) _ (c .before .before .before .before .before .before .before .before .before .args .k) _ (p .0 .2) (t .most) _ (c .before .before .before .before .before .before .before .before .before .args .n - 1) _ _ (c .packed .ensures) (omega (arith, p .1 .1, c .before .before .before .before .before .if1 .left))))
-    (λ c. record-next _ _ _ _ (c .before .before .before .before .before .before .before .before .before .before .pre .1 .0 .2) _ _ _ _ _ _ _ (omega (arith, c .before .before .before .before .before .before .if1 .left)) (c .before .before .before .before .if2 .left) (c .joined .ensures) (rw (c .before .before .before .expanded-index .ensures) at (c .before .before .item .ensures)) (c .before .packed .ensures)))
+    (record { inside = v .inside; table = t }, record-room (stepsOf (c .before .before .before .before .before .before .before .before .before .args .t1)) _ (c .before .before .before .before .before .before .before .before .before .args .k) _ (p .0 .2) (t .most) _ (c .before .before .before .before .before .before .before .before .before .args .n - 1) _ _ (c .packed .ensures) (omega (arith, p .1 .2, c .before .before .before .before .before .if1 .left)) (c .before .if2 .left)))
+    (λ c. record-next _ _ _ _ (c .before .before .before .before .before .before .before .before .before .before .pre .1 .0 .2) _ _ _ _ _ _ _ (omega (arith, c .before .before .before .before .before .before .if1 .left)) (c .before .before .before .before .before .before .before .before .before .before .pre .1 .1 .1) (c .joined .ensures) (rw (c .before .before .before .before .before .expanded-index .ensures) at (c .before .before .before .before .item .ensures)) (c .before .packed .ensures)))
     λ t. residual-lts.spec (
       stage-place-reads.Asked,
       stage-place-reads.Learnt,

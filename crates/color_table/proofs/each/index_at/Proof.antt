@@ -1,7 +1,7 @@
 -- `index_at` meets its contract: an index is below the table's size, and that is below the base.
 use native.Mathlib.Omega.{arith}
 use borrow.Author.Needs.{needs}
-use Rattle.color_table.proofs.Index.{row-inside, row-beyond}
+use Rattle.color_table.proofs.Index.{row-inside, row-below}
 use Rattle.color_table.proofs.Digits.{base-in}
 use Rattle.color_table.proofs.each.index_at.Statement.{statement}
 use Rattle.color_table.proofs.each.index_at.Tie as tie
@@ -23,4 +23,6 @@ index-at-spec =
     let s = c .before .before .before .before .before in
     let row = s .pre .0 .row in
     let base = base-in _ _ _ _ (s .pre .0) in
-    (row-beyond _ _ _ _ _ _ (omega arith), omega arith)))
+    let l = row-below _ _ _ (s .args .p .width) (s .args .a) (s .args .k) (row .taken) (row .wide) in
+    let q = s .pre .1 .1 (omega arith) in
+    (q, omega arith)))

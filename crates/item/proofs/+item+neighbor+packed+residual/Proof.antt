@@ -236,7 +236,7 @@ pub +item+neighbor+packed+residual-spec : {M : Type 1} → statement M
     (record { inside = v .inside; table = v .table (p .0 .2) }, omega (arith, p .1 .2, c .before .before .before .before .if1 .left)))
     (λ c.
     let p = c .before .before .before .before .before .before .before .before .before .pre .1 in
-    record-last _ _ _ _ (p .0 .2) _ _ (c .before .before .before .before .before .before .before .before .before .args .n - 1) _ _ _ (omega (arith, c .before .before .before .before .before .if1 .left)) (omega (arith, c .before .if2 .taken, p .1 .1)) (c .repeated .ensures) (rw (c .before .before .before .before .expanded-index .ensures) at (c .before .before .before .item .ensures)))
+    record-last _ _ _ _ (p .0 .2) _ (c .before .before .before .before .before .before .before .before .before .args .n) (c .before .before .before .before .before .before .before .before .before .args .n - 1) _ _ _ (omega (arith, c .before .before .before .before .before .if1 .left)) (omega (arith, c .before .if2 .taken, p .1 .1)) (c .repeated .ensures) (rw (c .before .before .before .before .expanded-index .ensures) at (c .before .before .before .item .ensures)))
     (λ c. omega (arith, c .before .before .before .before .if1 .left))
     (λ c.
     let p = c .before .before .before .before .before .before .before .before .pre .1 in

@@ -94,8 +94,8 @@ pub fn store_into(chain: &Chain, picture: &[u8], strip: &mut [u8]) -> Result<(),
 ///
 /// Where the strip is the picture stored, it is so after the call too. Where it is not, records away
 /// from the spots stay as they are: [`StoredPicture`] holds two that match. Retouching begins only from
-/// a strip that [`store`] or [`store_into`] made; one that was stored earlier, under document 01's zero
-/// bits at the ends of rows, is first rebuilt, and its picture stored.
+/// a strip that [`store`] or [`store_into`] made; one that was stored earlier, with zero bits at the
+/// ends of rows, is first rebuilt, and its picture stored.
 pub fn retouch_in_place(
     chain: &Chain,
     picture: &mut [u8],

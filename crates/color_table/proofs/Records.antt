@@ -8,8 +8,7 @@ use Rattle.format.specs.declared.Pixel.{Pixel}
 use Rattle.format.specs.Pixel.{pixel}
 use Rattle.format.specs.Picture.{Picture, ceiling}
 use Rattle.format.specs.ColorTable.{perPixel, range, packedWidth, indexOf, digits, packed}
-use Rattle.format.proofs.ColorTable.{perPixel-pos, first-inside}
-use Rattle.format.proofs.Inside.{digits-same}
+use Rattle.format.proofs.ColorTable.{perPixel-pos, digits-same, first-inside}
 use Rattle.pixel.specs.Cells.{pixelCells, putPixel, Rule, run, given}
 use Rattle.pixel.proofs.Cells.{run-none, run-next}
 use Rattle.pixel.proofs.Given.{given-none, given-put}

@@ -29,6 +29,7 @@ pub fn record_of(b: u32) -> u32
 }
 
 // The index at position a + k of a row: its column's or, past the row's end, the one before, which is the last column's.
+// A row has at most 16384 columns: the bound is any that keeps the sum in range.
 fn index_at(
     row: &[u8],
     a: usize,
@@ -52,7 +53,7 @@ fn index_at(
     }
 }
 
-// The record whose first position is a, lowest first.
+// The record whose first position is a, lowest index first.
 fn pack_record(row: &[u8], a: usize, entries: &[u8], hints: &[u8], p: Packing) -> u32
     requires { ⌜ Packs p (now entries) (now hints) (now row) ⌝ }
     requires { ⌜ a < p .width ⌝ }

@@ -128,6 +128,12 @@ perPixel-pos size = go (leb size 2) (leb size 4) (leb size 16)
 
 -- digits
 
+-- they depend on the first n numbers alone
+pub digits-same : (u n : ℕ) (g h : ℕ → ℕ) → ((k : ℕ) → k < n → g k ≡ h k) → digits u n g ≡ digits u n h
+unfolding digits
+digits-same u zero g h q = refl
+digits-same u (suc n) g h q = cc (q 0 (omega arith), digits-same u n (λ k. g (suc k)) (λ k. h (suc k)) (λ k l. q (suc k) (omega arith)))
+
 module _ (u : ℕ) (pos : 0 < u) where
   pub digit : (n : ℕ) (g : ℕ → ℕ) (j : ℕ) → ((k : ℕ) → k < n → g k < u) → j < n → digits u n g / u ^ j % u ≡ g j
   unfolding digits

@@ -4,7 +4,7 @@ use mathlib.Core.List.{List, []}
 use mathlib.Core.Logic.{_⊎_, inl, inr, _↔_}
 use mathlib.Core.Path.{_≡_, refl, sym, ap, _∙_}
 use Prim.Native.Nat.{ℕ, _+_, _*_, _≤_}
-use native.Mathlib.Nat.{le-trans}
+use native.Mathlib.Nat.{le-refl, le-trans}
 use native.Mathlib.Omega.{arith}
 use lib.ListN.{length, drop}
 use Rattle.format.specs.Choice.{if_then_else_}
@@ -12,19 +12,19 @@ use Rattle.format.specs.Picture.{Picture, byteAt, pixels, written, writt
 use Rattle.format.specs.ColorMap.{adjusted, unadjusted, refused, colorMapAnswer, adjustColorMap, unadjustColorMap}
 use Rattle.format.specs.Chain.{recordAt, stepAt, count}
 use Rattle.format.specs.Refusals.{accepted, sizeRefusal, chainRefusal, inputRefusal}
-use Rattle.format.specs.Stages.{stored, rebuilt}
+use Rattle.format.specs.Stages.{stored, rebuilt, accepts}
 use Rattle.format.specs.Retouch.{differ, marks, maskOf}
 use Rattle.format.specs.Calls.{records, rebuildAnswer, rebuildImage, storeAnswer, storeStrip, touched}
 use Rattle.format.specs.Earlier.{earlierStored, earlierStrip}
 use Rattle.format.specs.Lists.{leftBy}
 use Rattle.format.specs.Desk.{Retouch, Buffers, desk, callLeaves}
 use Rattle.format.specs.Report.{counter, colorCount, counterCount, reportAnswer, report, sum}
-use Rattle.format.specs.Promises.{SameFront, Admitted, RebuildingExactly, StoringExactly, RebuildingAnswers, StoringAnswers, RetouchingAnswers, RebuildingRefused, StoringRefused, RetouchingRefused, RebuildsStored, RebuildsEarlier, AnswersAsEarlier, StoresRebuilt, StoredPair, OneCall, left, paintedInTurn, RetouchesLikeDesk, ColorMapAnswers, ColorMapUndone, ColorMapRefused, ReportingAnswers, ReportingRefused, ofColor, ofNone, allPixels, leftCounters, ReportsAddUp}
+use Rattle.format.specs.Promises.{SameFront, Admitted, RebuildingExactly, StoringExactly, RebuildingAnswers, StoringAnswers, RetouchingAnswers, RebuildingRefused, StoringRefused, RetouchingRefused, RebuildsStored, RebuildsEarlier, AnswersAsEarlier, ConvertsEarlier, StoresRebuilt, StoredPair, OneCall, left, paintedInTurn, RetouchesLikeDesk, ColorMapAnswers, ColorMapUndone, ColorMapRefused, ReportingAnswers, ReportingRefused, ofColor, ofNone, allPixels, leftCounters, ReportsAddUp}
 use Rattle.format.proofs.Picture.{written-same}
 use Rattle.format.proofs.RoundTrips.{map-adjusted, map-unadjusted}
-use Rattle.format.proofs.Written.{bytes-pixels, pixels-written}
+use Rattle.format.proofs.Written.{bytes-pixels, length-written, pixels-written, written-over}
 use Rattle.format.proofs.Inside.{Alike}
-use Rattle.format.proofs.Stages.{stored-same, rebuilt-same}
+use Rattle.format.proofs.Stages.{stored-same, rebuilt-same, accepts-same}
 use Rattle.format.proofs.Valid.{before-zero, valid-sized, valid-known}
 use Rattle.format.proofs.Chains.{chain-stored, chain-rebuilt, widthAt-untabled, accepts-untabled}
 use Rattle.format.proofs.Calls.{rebuildAnswer-most, rebuild-accepts, rebuild-accepted, rebuildImage-accepted, rebuildImage-refused, storeAnswer-listed, store-accepts, store-accepted, storeStrip-accepted, storeStrip-refused, retouchAnswer-listed, retouch-refused}
@@ -120,6 +120,46 @@ module _ (w h : ℕ) (cs ds : List ℕ) where
 
   pub answers-as-earlier : AnswersAsEarlier w h cs ds
   answers-as-earlier = earlier-answer w h cs ds
+
+  pub converts-earlier : ConvertsEarlier w h cs ds
+  converts-earlier picture strip image new bytes e room space front =
+      (again, storeStrip-accepted w h cs ds p s again ∙ ap (written n g) left ∙ written-over n n g g new (le-refl n) ∙ sym left)
+    where
+      f : Picture
+      f = pixels picture
+
+      p : List ℕ
+      p = rebuildImage w h cs ds image
+
+      made : p ≡ written (h * w) f image
+      made = rebuilds-earlier picture strip image bytes e room front .1
+
+      valid : inputRefusal w h cs ds ≡ 0
+      valid = earlier-accepted w h cs ds picture strip e .0
+
+      taken : accepts (stepAt cs w) h ds (count cs) (pixels p) ≡ true
+      taken =
+          accepts-same cs w h ds (valid-sized w h cs ds valid .wide) (count cs) (valid-known w h cs ds valid) (pixels p) f
+          (λ q l. ap (λ (xs : List ℕ). pixels xs q) made ∙ pixels-written (h * w) f image q l)
+          ∙ store-accepted w h cs ds picture strip (answers-as-earlier picture strip ∙ e) .3
+
+      wide : 4 * (h * w) ≤ length p
+      wide = rw (made, length-written (h * w) f image room) room
+
+      n : ℕ
+      n = records w h cs
+
+      g : Picture
+      g = stored (stepAt cs w) ds (count cs) (pixels p)
+
+      s : List ℕ
+      s = storeStrip w h cs ds p new
+
+      left : s ≡ written n g new
+      left = storeStrip-accepted w h cs ds p new (store-accepts w h cs ds p new valid wide space taken)
+
+      again : storeAnswer w h cs ds p s ≡ 0
+      again = store-accepts w h cs ds p s valid wide (rw (left, length-written n g new space) space) taken
 
   pub stores-rebuilt : StoresRebuilt w h cs ds
   unfolding recordAt

@@ -13,9 +13,9 @@ use Rattle.format.specs.Choice.{if_then_else_}
 use Rattle.format.specs.declared.Step.{Step}
 use Rattle.format.specs.Picture.{Picture, pixels, written}
 use Rattle.format.specs.ColorTable.{perPixel, range, packedWidth, indexOf, haveEntries, packed, unpacked}
-use Rattle.format.specs.Chain.{recordAt, widthAt, stepAt, count, narrowed}
+use Rattle.format.specs.Chain.{recordAt, stepAt, count}
 use Rattle.format.specs.Refusals.{_unless_, _before_, inputRefusal}
-use Rattle.format.specs.Stages.{partOf, forward, backward, stored, rebuilt, takes, accepts}
+use Rattle.format.specs.Stages.{partOf, forward, stored, rebuilt, takes, accepts}
 use Rattle.format.specs.Calls.{records, pairRefusal, storeAnswer}
 use Rattle.format.specs.Earlier.{earlierIndexAt, earlierPacked, earlierForward, earlierStored, earlierAccepts, earlierAnswer, earlierStrip}
 use Rattle.format.specs.ValidStep.{ValidStep}
@@ -23,9 +23,9 @@ use Rattle.format.proofs.Choice.{and-left, and-right}
 use Rattle.format.proofs.ColorTable.{bundled, usedIndex, unpacked-used, used-own, index-small, used-stored, unpacked-packed}
 use Rattle.format.proofs.Inside.{Alike}
 use Rattle.format.proofs.Bytewise.{BytesIn, rows-bytes}
-use Rattle.format.proofs.ByKind.{forward-3, backward-3, takes-table, takes-other, narrowed-table}
+use Rattle.format.proofs.ByKind.{backward-3, takes-table, takes-other, narrowed-table}
 use Rattle.format.proofs.Stages.{widthAt-pos}
-use Rattle.format.proofs.Valid.{before-none, before-some, before-zero, unless-zero, valid-sized, valid-step, valid-once}
+use Rattle.format.proofs.Valid.{before-some, before-zero, unless-zero, valid-sized, valid-step, valid-once}
 use Rattle.format.proofs.Chains.{Undone, forward-undone, stages-rebuilt}
 use Rattle.format.proofs.Calls.{pair-accepted}
 

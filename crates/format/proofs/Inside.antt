@@ -1,5 +1,5 @@
 -- Transforms stay inside the picture: what they make of h rows of w pixels depends on those pixels alone.
-use mathlib.Core.Path.{_≡_, refl, ap}
+use mathlib.Core.Path.{_≡_, ap}
 use Prim.Native.Nat.{ℕ, zero, suc, _+_, _*_, _/_, _%_, _<_, _≤_}
 use native.Mathlib.Nat.{mod-lt, div-lt-iff-lt-mul}
 use native.Mathlib.Omega.{arith}
@@ -10,11 +10,11 @@ use Rattle.format.specs.Picture.{Picture, block, inOrder}
 use Rattle.format.specs.Predictor.{residuals, gained, fromResiduals}
 use Rattle.format.specs.Color.{transformColor, inverseColor, colorStored, colorRebuilt}
 use Rattle.format.specs.SubtractGreen.{subtractGreen, addGreen, greenStored, greenRebuilt}
-use Rattle.format.specs.ColorTable.{perPixel, range, packedWidth, indexIn, entry, unpacked, indexOf, digits, columnAt, indexAt, packed}
+use Rattle.format.specs.ColorTable.{perPixel, range, packedWidth, indexIn, unpacked, indexOf, columnAt, indexAt, packed}
 use Rattle.format.specs.Pixel.{pixel}
 use Rattle.format.proofs.Choice.{if-same}
 use Rattle.format.proofs.Predictor.{predicted-earlier}
-use Rattle.format.proofs.ColorTable.{perPixel-pos, column-packed, ceiling-pos, column-inside}
+use Rattle.format.proofs.ColorTable.{perPixel-pos, digits-same, column-packed, ceiling-pos, column-inside, unpacked-used}
 
 -- the first n pixels are the same
 abbrev pub Alike : ℕ → Picture → Picture → Type 0
@@ -60,20 +60,13 @@ module _ (n : ℕ) (f g : Picture) (same : Alike n f g) where
 
 -- color table
 
--- n digits depend on the first n numbers alone
-pub digits-same : (u n : ℕ) (f g : ℕ → ℕ) → ((k : ℕ) → k < n → f k ≡ g k) → digits u n f ≡ digits u n g
-unfolding digits
-digits-same u zero f g h = refl
-digits-same u (suc n) f g h = cc (h 0 (omega arith), digits-same u n (λ k. f (suc k)) (λ k. g (suc k)) (λ k l. h (suc k) (omega arith)))
-
 module _ (w h size : ℕ) (e : Picture) (pos : 0 < w) (f g : Picture) where
   pub unpacked-same : Alike (h * packedWidth size w) f g → Alike (h * w) (unpacked w size e f) (unpacked w size e g)
-  unfolding unpacked
   unpacked-same same q l =
       let n = perPixel size in
       let x = q % w in
       let column = column-packed w n x (perPixel-pos size) (mod-lt q pos) in
-      ap (λ (v : Pixel). entry size e (indexIn n (v .green) (x % n))) (same (q / w * packedWidth size w + x / n) (digits-lt (div-lt-iff-lt-mul pos .1 l) column))
+      unpacked-used w size e f g q (ap (λ (v : Pixel). indexIn n (v .green) (x % n)) (same (q / w * packedWidth size w + x / n) (digits-lt (div-lt-iff-lt-mul pos .1 l) column)))
 
   pub packed-same : Alike (h * w) f g → Alike (h * packedWidth size w) (packed w size e f) (packed w size e g)
   unfolding packed

@@ -19,7 +19,7 @@ use Rattle.format.specs.Made.{namedBy, named, columns, madeOf, takesItem
 use Rattle.format.specs.Retouch.{spotsOf, spotRecords, unmade, remade, newStrip, changes, pointAnswer}
 use Rattle.format.specs.Calls.{pairRefusal, rebuildAnswer, rebuildImage, storeAnswer, storeStrip, retouchAnswer, retouchPicture, retouchStrip}
 use Rattle.format.specs.Earlier.{earlierPacked, earlierForward, earlierStored, earlierAccepts, earlierAnswer, earlierStrip}
-use Rattle.format.proofs.Worked.{Line, _is_, zeros, nines, inRed, residues, reds, inGreen, mode, recordOf, green, table}
+use Rattle.format.proofs.Worked.{Line, _is_, nines, inRed, residues, reds, inGreen, mode, recordOf, green, table}
 
 abbrev red : ℕ → Pixel
 red v = pixel v 0 0 255
@@ -95,8 +95,10 @@ worked =
     ∷ (earlierAnswer 3 2 (table 5) (reds 5) three (nines 4)
     ∷ earlierAnswer 3 2 (table 4) (reds 4) three (nines 4)
     ∷ earlierAnswer 3 2 (table 4) (reds 4) three []
-    ∷ earlierAnswer 5 2 predictorFirst lastData (inRed (3 ∷ []) ++ nines 9) (nines 4) ∷ []
-    is 0 ∷ 21 ∷ 8 ∷ 21 ∷ [])
+    ∷ earlierAnswer 5 2 predictorFirst lastData (inRed (3 ∷ []) ++ nines 9) (nines 4)
+    ∷ earlierAnswer 3 2 tableFirst firstData (inRed (5 ∷ 1 ∷ 3 ∷ 2 ∷ 0 ∷ 4 ∷ [])) (nines 4)
+    ∷ earlierAnswer 3 2 (table 4) (reds 4) (inRed (0 ∷ 1 ∷ 3 ∷ 2 ∷ 0 ∷ 4 ∷ [])) (nines 4) ∷ []
+    is 0 ∷ 21 ∷ 8 ∷ 21 ∷ 21 ∷ 21 ∷ [])
     ∷ (earlierStrip 3 2 (table 4) (reds 4) three (nines 4) is nines 4)
     -- such strips rebuild to their pictures, and so do those with anything in the unused positions
     ∷ (rebuildImage 3 2 tableFirst firstData (packedResidues (20 ∷ 239 ∷ 238 ∷ 1 ∷ []) ++ nines 2) is three)

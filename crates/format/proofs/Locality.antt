@@ -21,11 +21,10 @@ use Rattle.format.specs.ColorTable.{perPixel, range, packedWidth, indexO
 use Rattle.format.specs.Stages.{partOf, forward, stored}
 use Rattle.format.specs.Retouch.{fiveSpots, packedOver, placeOf, spotsOf, spotRecords}
 use Rattle.format.proofs.Choice.{if-same}
-use Rattle.format.proofs.Inside.{digits-same}
 use Rattle.format.proofs.Indices.{In, in-union}
 use Rattle.format.proofs.Picture.{paint-other}
 use Rattle.format.proofs.Predictor.{row-above}
-use Rattle.format.proofs.ColorTable.{perPixel-pos, ceiling-pos, first-inside, column-own, column-last}
+use Rattle.format.proofs.ColorTable.{perPixel-pos, digits-same, ceiling-pos, first-inside, column-own, column-last}
 use Rattle.format.proofs.ByKind.{kinds, forward-0, forward-1, forward-2, forward-3}
 
 -- f and g agree away from ps

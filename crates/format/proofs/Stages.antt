@@ -1,7 +1,7 @@
 -- Laws of a chain's stages: widths shrink, and each stage depends on the pixels inside alone.
 use mathlib.Core.Bool.{Bool, true, false}
 use mathlib.Core.List.{List}
-use mathlib.Core.Path.{_≡_, refl, subst}
+use mathlib.Core.Path.{_≡_, refl, ap, subst}
 use Prim.Native.Nat.{ℕ, zero, suc, _+_, _-_, _*_, _<_, _≤_}
 use native.Mathlib.Nat.{le-refl, le-trans, suc-mul, div-lt-iff-lt-mul, le-of-suc-le-suc, le-mul-of-pos-right, zero-add}
 use native.Mathlib.Omega.{arith}
@@ -9,9 +9,10 @@ use lib.Dec.{eqb}
 use Rattle.format.specs.Choice.{if_then_else_}
 use Rattle.format.specs.declared.Step.{Step}
 use Rattle.format.specs.Picture.{Picture, ceiling}
-use Rattle.format.specs.ColorTable.{perPixel, packedWidth}
+use Rattle.format.specs.ColorTable.{perPixel, packedWidth, hasEntry}
 use Rattle.format.specs.Chain.{recordAt, narrowed, widthAt, stepAt}
-use Rattle.format.specs.Stages.{partOf, forward, backward, stored, rebuilt}
+use Rattle.format.specs.Stages.{partOf, forward, backward, takes, stored, rebuilt, accepts}
+use Rattle.format.proofs.Choice.{if-same, every-same}
 use Rattle.format.proofs.ColorTable.{perPixel-pos, ceiling-pos}
 use Rattle.format.proofs.Inside.{Alike, residuals-same, fromResiduals-same, colorStored-same, colorRebuilt-same, greenStored-same, greenRebuilt-same, packed-same, unpacked-same}
 use Rattle.format.proofs.ByKind.{kinds, forward-0, forward-1, forward-2, forward-3, backward-0, backward-1, backward-2, backward-3, narrowed-table, narrowed-other}
@@ -95,6 +96,14 @@ module _ (s : Step) (h : ℕ) (ds : List ℕ) (pos : 1 ≤ s .width) (known : s 
       wide : (s .kind ≡ 3 → ⊥) → Alike (h * w) f g
       wide n = rw (narrowed-other s n) at same
 
+-- a record takes alike what it looks at
+pub takes-same : (s : Step) (h : ℕ) (ds : List ℕ) (f g : Picture) → Alike (h * s .width) f g → takes s h ds f ≡ takes s h ds g
+unfolding takes
+takes-same s h ds f g same =
+    if-same (eqb (s .kind) 3)
+    (λ e. every-same (h * s .width) (λ q. hasEntry (s .size) (partOf s ds) (f q)) (λ q. hasEntry (s .size) (partOf s ds) (g q)) (λ q l. ap (hasEntry (s .size) (partOf s ds)) (same q l)))
+    (λ e. refl)
+
 -- chains
 
 -- the kinds of the first k records are known
@@ -115,3 +124,10 @@ module _ (cs : List ℕ) (w h : ℕ) (ds : List ℕ) (pos : 1 ≤ w) where
   rebuilt-same (suc k) known f g same =
       rebuilt-same k (λ j l. known j (omega arith)) (backward (stepAt cs w k) h ds f) (backward (stepAt cs w k) h ds g)
       (backward-same (stepAt cs w k) h ds (widthAt-pos cs w k pos) (known k (omega arith)) f g same)
+
+  pub accepts-same : (k : ℕ) → KnownKinds cs w k → (f g : Picture) → Alike (h * w) f g → accepts (stepAt cs w) h ds k f ≡ accepts (stepAt cs w) h ds k g
+  unfolding accepts recordAt
+  accepts-same zero known f g same = refl
+  accepts-same (suc k) known f g same =
+      let before : KnownKinds cs w k = λ j l. known j (omega arith) in
+      cc (accepts-same k before f g same, takes-same (stepAt cs w k) h ds (stored (stepAt cs w) ds k f) (stored (stepAt cs w) ds k g) (stored-same k before f g same))

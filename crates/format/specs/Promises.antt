@@ -90,8 +90,8 @@ module _ (w h : ℕ) (cs ds : List ℕ) where
       → SameFront (records w h cs) image (storeStrip w h cs ds picture strip)
       → (rebuildAnswer w h cs ds image ≡ 0) × (rebuildImage w h cs ds image ≡ written (h * w) (pixels picture) image)
 
-  -- document 02 (ii): so does rebuilding a strip that was stored earlier, under document 01's zero bits; storing answers
-  -- as it did then, and so accepts what was rebuilt
+  -- document 02 (ii): so does rebuilding a strip that was stored earlier, by document 01's rule of zero bits; no answer of
+  -- storing is other than by that rule
   abbrev pub RebuildsEarlier : Type 0
   RebuildsEarlier = (picture strip image : List ℕ) → AreBytes picture
       → earlierAnswer w h cs ds picture strip ≡ 0
@@ -117,6 +117,19 @@ module _ (w h : ℕ) (cs ds : List ℕ) where
   StoredPair b =
       (storeAnswer w h cs ds (b .picture) (b .strip) ≡ 0)
       × (storeStrip w h cs ds (b .picture) (b .strip) ≡ b .strip)
+
+  -- document 02 (ii): an earlier strip becomes one that retouching begins from: it is rebuilt, and its picture stored
+  abbrev pub converted : List ℕ → List ℕ → Buffers
+  converted image strip =
+      let picture = rebuildImage w h cs ds image in
+      record { picture = picture; strip = storeStrip w h cs ds picture strip }
+
+  abbrev pub ConvertsEarlier : Type 0
+  ConvertsEarlier = (picture strip image new : List ℕ) → AreBytes picture
+      → earlierAnswer w h cs ds picture strip ≡ 0
+      → 4 * (h * w) ≤ length image → 4 * records w h cs ≤ length new
+      → SameFront (records w h cs) image (earlierStrip w h cs ds picture strip)
+      → StoredPair (converted image new)
 
   -- how many records of the strip differ before and after a call
   abbrev pub changedBy : Buffers → Retouch → ℕ

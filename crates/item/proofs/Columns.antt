@@ -14,9 +14,8 @@ use Rattle.format.specs.Pixel.{pixel}
 use Rattle.format.specs.Picture.{Picture}
 use Rattle.format.specs.ColorTable.{perPixel, range, indexOf, hasEntry, indexAt, digits}
 use Rattle.format.specs.Made.{columns, made}
-use Rattle.format.proofs.ColorTable.{digits-below, index-own, index-last}
+use Rattle.format.proofs.ColorTable.{digits-same, digits-below, index-own, index-last}
 use Rattle.color_table.specs.Pack.{uniform}
-use Rattle.format.proofs.Inside.{digits-same}
 use Rattle.color_table.proofs.Digits.{base-of, small-more, weight-small}
 use Rattle.format.specs.declared.Made.{Made}
 use Rattle.format.specs.declared.Made.the-variants.{Item, Missing}
@@ -70,17 +69,16 @@ module _ (size : ℕ) (e : Picture) (first rest : Made) (v p : Pixel) (i : ℕ) 
   joined-item r w a b q l d c = rw (a, b, lt-ltb (indexOf size e v) size (rw (← q) l), c, q, d)
 
 -- the same index once more
-module _ (u i : ℕ) (l : i < u) where
-  pub again-more : (k b : ℕ) → b ≡ digits u k (λ j. i) → i + u * b ≡ digits u (k + 1) (λ j. i)
-  unfolding digits
-  again-more k b q = let s : k + 1 ≡ suc k = omega arith in rw (s, q)
+pub again-more : (u i k b : ℕ) → b ≡ digits u k (λ j. i) → i + u * b ≡ digits u (k + 1) (λ j. i)
+unfolding digits
+again-more u i k b q = let s : k + 1 ≡ suc k = omega arith in rw (s, q)
 
-  pub again-small : (k n b : ℕ) → b < u ^ k → k < n → u ^ n ≤ 256 → (i + u * b < u ^ (k + 1)) × (i + u * b < 256)
-  again-small k n b m h t =
-      let s : k + 1 ≡ suc k = omega arith in
-      let a : i + u * b < u ^ (k + 1) = rw (s, pow-succ' u k) (small-more (u ^ k) i u b l m) in
-      let p : u ^ (k + 1) ≤ u ^ n = pow-le-pow-right (omega arith) (omega arith) in
-      (a, omega arith)
+pub again-small : (u i k n b : ℕ) → i < u → b < u ^ k → k < n → u ^ n ≤ 256 → (i + u * b < u ^ (k + 1)) × (i + u * b < 256)
+again-small u i k n b l m h t =
+    let s : k + 1 ≡ suc k = omega arith in
+    let a : i + u * b < u ^ (k + 1) = rw (s, pow-succ' u k) (small-more (u ^ k) i u b l m) in
+    let p : u ^ (k + 1) ≤ u ^ n = pow-le-pow-right (omega arith) (omega arith) in
+    (a, omega arith)
 
 -- one index more fits a byte
 pub byte-fits : (size u w i g : ℕ) → u * g + u ≤ 256 → w ≡ u → i < size → size ≤ w → i + w * g < 256

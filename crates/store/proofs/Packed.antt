@@ -15,8 +15,7 @@ use Rattle.format.specs.ColorTable.{perPixel, range, packedWidth, indexOf, hasE
 use Rattle.format.specs.Sizes.{Sized}
 use Rattle.format.specs.ValidStep.{ValidStep}
 use Rattle.format.proofs.Choice.{every-at, every-all}
-use Rattle.format.proofs.ColorTable.{perPixel-pos, first-inside, column-inside}
-use Rattle.format.proofs.Inside.{digits-same}
+use Rattle.format.proofs.ColorTable.{perPixel-pos, digits-same, first-inside, column-inside}
 use Rattle.color_table.proofs.Rows.{packed-fewer}
 use Rattle.format.specs.Stages.{dataOf}
 use Rattle.store.specs.Stage.{TableStep}

@@ -26,8 +26,13 @@ pack-each-spec =
     Inv-loop
     μ-loop
     (λ c. (omega arith, omega arith, refl, run-none _ _ _ _))
-    (λ c. let row = c .before .before .before .before .before .before .before .before .pre .0 .row in let n = row .narrow in omega (arith, record-first (c .before .before .before .before .before .before .before .before .args .p .width) _ _ (c .before .before .before .loop .j) (row .places) (omega arith)))
-    (λ c κs. let row = c .before .before .before .before .before .before .before .before .pre .0 .row in (c .before .before .before .before .before .before .before .before .pre .0, record-first (c .before .before .before .before .before .before .before .before .args .p .width) _ _ (c .before .before .before .loop .j) (row .places) (omega arith)))
+    (λ c.
+    let s = c .before .before .before .before .before .before .before .before in
+    let n = s .pre .0 .row .narrow in
+    omega (arith, record-first (s .args .p .width) _ _ (c .before .before .before .loop .j) (s .pre .0 .row .places) (omega arith)))
+    (λ c κs.
+    let s = c .before .before .before .before .before .before .before .before in
+    (s .pre .0, record-first (s .args .p .width) _ _ (c .before .before .before .loop .j) (s .pre .0 .row .places) (omega arith)))
     (λ c κs. omega arith)
     (λ c. omega arith)
     (λ c. omega arith)

@@ -28,13 +28,19 @@ pack-record-spec =
     Inv-loop
     μ-loop
     (λ c. (omega arith, digits-none _ _, sym (pow-zero _), omega arith, omega arith, base-in _ _ _ _ (c .before .before .before .pre .0), λ l. absurd (omega (arith, c .before .before .before .pre .1))))
-    (λ c κs. let n = c .before .before .before .before .before .before .pre .0 .row .narrow in let few = c .before .before .loop .inv .5 .few in (c .before .before .before .before .before .before .pre .0, (omega arith, c .before .before .loop .inv .6)))
+    (λ c κs.
+    let s = c .before .before .before .before .before .before in
+    let l = c .before .before .loop in
+    let n = s .pre .0 .row .narrow in
+    let few = l .inv .5 .few in
+    (s .pre .0, (omega arith, l .inv .6)))
     (λ c. let l = c .before .before .before .loop in omega (arith, small-product (l .weight) (c .index-at .result) (l .inv .4) (omega arith)))
     (λ c. let l = c .before .before .before .loop in omega (arith, small-product (l .weight) (c .index-at .result) (l .inv .4) (omega arith)))
     (λ c. let l = c .before .before .before .before .loop in omega (arith, small-product (l .weight) (c .before .before .before .before .before .before .before .before .args .p .range) (l .inv .4) (l .inv .5 .most)))
     (λ c. omega arith)
     (λ c. omega arith)
     (λ c.
+    let s = c .before .before .before .before .before .before .before .before in
     let l = c .before .before .before .before .loop in
     let base = l .inv .5 in
     let w = weight-more _ _ _ (l .inv .2) in
@@ -45,7 +51,7 @@ pack-record-spec =
       small-more _ _ _ _ (l .inv .3) (i .1),
       weight-small _ _ _ _ w (base .whole) (base .two) (omega arith),
       base,
-      λ past. row-again _ _ _ (c .before .before .before .before .before .before .before .before .args .p .width) (c .before .before .before .before .before .before .before .before .args .a) (l .k) _ (i .0) past (c .before .before .before .before .before .before .before .before .pre .0 .row .wide),
+      λ past. row-again _ _ _ (s .args .p .width) (s .args .a) (l .k) _ (i .0) past (s .pre .0 .row .wide),
     ))
     (λ c. omega arith)
     (λ c κs. omega arith)

@@ -22,10 +22,10 @@ repeated-index-spec =
     Inv-loop
     μ-loop
     (λ c. (omega arith, digits-none _ _, rw (pow-zero (c .args .range)) (omega arith)))
-    (λ c. omega (arith, again-small _ _ (c .before .before .pre .0) _ _ _ (c .before .loop .inv .2) (omega arith) (c .before .before .pre .1) .1))
-    (λ c. omega (arith, again-small _ _ (c .before .before .pre .0) _ _ _ (c .before .loop .inv .2) (omega arith) (c .before .before .pre .1) .1))
+    (λ c. omega (arith, again-small _ _ _ _ _ (c .before .before .pre .0) (c .before .loop .inv .2) (omega arith) (c .before .before .pre .1) .1))
+    (λ c. omega (arith, again-small _ _ _ _ _ (c .before .before .pre .0) (c .before .loop .inv .2) (omega arith) (c .before .before .pre .1) .1))
     (λ c. omega arith)
     (λ c. omega arith)
-    (λ c. (omega arith, again-more _ _ (c .before .before .pre .0) _ _ (c .before .loop .inv .1), again-small _ _ (c .before .before .pre .0) _ _ _ (c .before .loop .inv .2) (omega arith) (c .before .before .pre .1) .0))
+    (λ c. (omega arith, again-more _ _ _ _ (c .before .loop .inv .1), again-small _ _ _ _ _ (c .before .before .pre .0) (c .before .loop .inv .2) (omega arith) (c .before .before .pre .1) .0))
     (λ c. let k : c .before .loop .k ≡ c .before .before .args .n = omega arith in omega (arith, c .before .before .pre .1, rw k at (c .before .loop .inv .2)))
     (λ c. let k : c .before .loop .k ≡ c .before .before .args .n = omega arith in rw k at (c .before .loop .inv .1)))

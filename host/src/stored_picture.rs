@@ -8,8 +8,8 @@ use crate::{retouch_in_place, store, Chain, ChangedRecords, Error, Picture, Pixe
 /// nothing but [`StoredPicture::retouch`] writes either, which keeps it so: that is the library's
 /// theorem about every list of retouches, accepted or refused, from a stored picture on.
 ///
-/// A strip that was stored earlier, with zero bits at the ends of rows, is not what
-/// [`store`] makes of its picture, and is not retouched. [`crate::rebuild`] gives the picture, and a
+/// A strip that was stored earlier, with zero bits at the ends of rows, may differ from what [`store`]
+/// makes of its picture, and is not retouched. [`crate::rebuild`] gives the picture, and a
 /// `StoredPicture` of it has a strip to begin from.
 #[derive(Clone, Debug, PartialEq, Eq)]
 pub struct StoredPicture {

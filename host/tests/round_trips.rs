@@ -95,7 +95,8 @@ fn packed(indices: &[usize], width: u32, bits: usize, unused: fn(usize) -> usize
     records.map(record).collect()
 }
 
-/// Also of strips stored earlier, with zero bits at the ends of rows.
+/// A table alone is stored as `packed` makes it here, and rebuilds; so does a strip stored earlier,
+/// with zero bits at the ends of rows.
 #[test]
 fn table_alone() {
     let mut random = Xorshift::new(0x9FB2_1C65_1E98_DF25);

@@ -33,8 +33,8 @@
 //! length. Store: the input is the whole picture buffer; the strip's buffer has the output's length
 //! and holds 165 in every byte before the call; the output is what it holds after it. Either buffer
 //! may be longer than needed or, where the answer is 8, too short. After a refusal the output is
-//! what the buffer held. Some of the rebuilt strips were stored earlier, under document 01's zero
-//! bits at the ends of rows.
+//! what the buffer held. Some of the rebuilt strips are as those stored earlier, with document 01's
+//! zero bits at the ends of rows.
 //!
 //! A list of retouches on the same buffers has these 16 bytes, then chain, data, picture and strip
 //! before the list, the calls, picture and strip after the list. Such cases stand after those of

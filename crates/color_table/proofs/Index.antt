@@ -14,7 +14,7 @@ use Rattle.format.specs.Picture.{Picture}
 use Rattle.format.specs.ColorTable.{lowest, indexOf, hasEntry, haveEntries, columnAt, indexAt}
 use Rattle.format.proofs.Choice.{every-at, and-both, and-left, and-right, and-false-right}
 use Rattle.format.proofs.Pixels.{equal-true, equal-refl}
-use Rattle.format.proofs.ColorTable.{column-inside, index-own, index-last, lowest-hit, lowest-least, index-least}
+use Rattle.format.proofs.ColorTable.{column-inside, index-inside, index-last, lowest-hit, lowest-least, index-least}
 use Rattle.color_table.specs.OneOf.{oneOf, EachOf}
 use Rattle.color_table.specs.Pack.{EachHas, rowIndices}
 
@@ -233,7 +233,7 @@ module _ (size : ℕ) (e f : Picture) where
   unfolding rowIndices
   row-own w a k l =
       let z : 0 * w + (a + k) ≡ a + k = omega arith in
-      index-own w size e f 0 (a + k) l ∙ ap (λ (x : ℕ). indexOf size e (f x)) z
+      index-inside w size e f 0 (a + k) l ∙ ap (λ (x : ℕ). indexOf size e (f x)) z
 
   pub row-below : (w a k : ℕ) → haveEntries size e w f ≡ true → 1 ≤ w → rowIndices w size e f a k < size
   unfolding rowIndices
@@ -249,5 +249,5 @@ module _ (size : ℕ) (e f : Picture) where
   row-again w a k r q l pos = q ∙ last (decLt (a + k) w) ∙ sym (index-last w size e f 0 (a + (k + 1)) l)
     where
       last : Dec (a + k < w) → indexAt w size e f 0 (a + k) ≡ indexOf size e (f (0 * w + (w - 1)))
-      last (yes m) = let z : a + k ≡ w - 1 = omega arith in index-own w size e f 0 (a + k) m ∙ ap (λ (x : ℕ). indexOf size e (f (0 * w + x))) z
+      last (yes m) = let z : a + k ≡ w - 1 = omega arith in index-inside w size e f 0 (a + k) m ∙ ap (λ (x : ℕ). indexOf size e (f (0 * w + x))) z
       last (no m) = index-last w size e f 0 (a + k) (omega arith)

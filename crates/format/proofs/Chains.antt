@@ -103,15 +103,15 @@ module _ (w h : ℕ) (cs ds : List ℕ) (valid : inputRefusal w h cs ds ≡ 0) (
 -- chains that accept the picture
 
 module _ (w h : ℕ) (cs ds : List ℕ) (valid : inputRefusal w h cs ds ≡ 0) (f : Picture) (bytes : BytesIn (h * w) f) where
-  abbrev accepted : ℕ → Bool
-  accepted k = accepts (stepAt cs w) h ds k f
+  abbrev taken : ℕ → Bool
+  taken k = accepts (stepAt cs w) h ds k f
 
   -- rebuilding what was stored gives the picture
-  pub chain-stored : accepted (count cs) ≡ true → Alike (h * w) (rebuilt (stepAt cs w) h ds (count cs) (stored (stepAt cs w) ds (count cs) f)) f
+  pub chain-stored : taken (count cs) ≡ true → Alike (h * w) (rebuilt (stepAt cs w) h ds (count cs) (stored (stepAt cs w) ds (count cs) f)) f
   unfolding stored accepts recordAt
   chain-stored =
-      stages-rebuilt w h cs ds valid (λ k. stored (stepAt cs w) ds k f) bytes accepted (λ k a. and-left (accepted k) _ a)
-      (λ k l a b. forward-undone (stepAt cs w k) h (length ds) ds (widthAt-pos cs w k (valid-sized w h cs ds valid .wide)) (valid-step w h cs ds valid k l) (stored (stepAt cs w) ds k f) b (and-right (accepted k) _ a))
+      stages-rebuilt w h cs ds valid (λ k. stored (stepAt cs w) ds k f) bytes taken (λ k a. and-left (taken k) _ a)
+      (λ k l a b. forward-undone (stepAt cs w k) h (length ds) ds (widthAt-pos cs w k (valid-sized w h cs ds valid .wide)) (valid-step w h cs ds valid k l) (stored (stepAt cs w) ds k f) b (and-right (taken k) _ a))
       (count cs) (le-refl (count cs))
 
 -- chains without a color table

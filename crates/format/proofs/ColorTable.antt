@@ -178,8 +178,8 @@ column-inside w x pos = go (ltb x w) (ltb-true x w)
 
 -- so that a position has its column's index; an unused one has that of the row's last pixel
 module _ (w size : ℕ) (e f : Picture) (y x : ℕ) where
-  pub index-own : x < w → indexAt w size e f y x ≡ indexOf size e (f (y * w + x))
-  index-own l = rw (lt-ltb x w l)
+  pub index-inside : x < w → indexAt w size e f y x ≡ indexOf size e (f (y * w + x))
+  index-inside l = rw (lt-ltb x w l)
 
   pub index-last : w ≤ x → indexAt w size e f y x ≡ indexOf size e (f (y * w + (w - 1)))
   index-last l = rw (le-ltb x w l)
@@ -267,7 +267,7 @@ module _ (w h size : ℕ) (e f : Picture) (pos : 0 < w) (least : size ≤ 256) (
   pub used-stored : (q : ℕ) → q < h * w → usedIndex w size (packed w size e f) q ≡ indexOf size e (f q)
   unfolding packed
   used-stored =
-      used-own w h size pos least (indexAt w size e f) packed-small e f (index-own w size e f)
+      used-own w h size pos least (indexAt w size e f) packed-small e f (index-inside w size e f)
 
   pub unpacked-packed : (q : ℕ) → q < h * w → unpacked w size e (packed w size e f) q ≡ f q
   unfolding unpacked

@@ -1,5 +1,5 @@
--- Further pictures, worked out from document 02 (ii): the unused positions of a row's last record, retouches in the last
--- column, and strips stored earlier.
+-- Further pictures, worked out from document 02 (ii): the unused positions of a row's last record, retouches in the
+-- last column, and strips stored earlier.
 use mathlib.Core.List.{List, [], _∷_, _++_, map}
 use mathlib.Core.Path.{_≡_, refl}
 use Prim.Native.Nat.{ℕ}

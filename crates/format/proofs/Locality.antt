@@ -115,7 +115,7 @@ packed-back w size r k small inside =
     let v = packedWidth size w in
     rw (digits-div (r / v) inside, digits-mod (r / v) inside, digits-div (r % v) small) (sym (div-add-mod' r v))
 
--- so is the column of an unused position
+-- so is the column of any position, used or not
 column-back : (w size r k : ℕ) → 0 < w → k < perPixel size
     → r ≡ packedOver w size (r / packedWidth size w * w + columnAt w (r % packedWidth size w * perPixel size + k))
 column-back w size r k pos small = go (decLt (first + k) w)

@@ -66,8 +66,8 @@ unfoldable pub digits : ℕ → ℕ → (ℕ → ℕ) → ℕ
 digits u zero g = 0
 digits u (suc n) g = g 0 + u * digits u n (λ k. g (suc k))
 
--- a packed row has n positions in each record, and column x has position x; the unused positions of the last record
--- have the row's last column again (document 02, ii)
+-- each record of a packed row has `perPixel` positions, and column x has position x; unused positions, past the last
+-- column, have the row's last column again (document 02, ii)
 abbrev pub columnAt : ℕ → ℕ → ℕ
 columnAt w x = if ltb x w then x else w - 1
 

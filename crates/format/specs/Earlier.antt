@@ -1,5 +1,5 @@
--- Strips stored earlier (document 02, ii): what storing returned and left by document 01's rule, that unused high bits of
--- a row's last record are zero. No call makes them; promises are about them.
+-- Strips stored earlier (document 02, ii): what storing returned and left by document 01's rule, that unused high bits
+-- of a row's last record are zero. No call makes them; promises are about them.
 use mathlib.Core.Bool.{Bool, true, _&&_}
 use mathlib.Core.List.{List}
 use Prim.Native.Nat.{ℕ, zero, suc, _+_, _*_, _/_, _%_}
@@ -13,14 +13,14 @@ use Rattle.format.specs.Refusals.{accepted, _before_, _unless_}
 use Rattle.format.specs.Stages.{partOf, forward, takes}
 use Rattle.format.specs.Calls.{records, pairRefusal}
 
--- the index packed at position x of row y
+-- the index packed at position x of row y; an unused position has 0
 abbrev pub earlierIndexAt : ℕ → ℕ → Picture → Picture → ℕ → ℕ → ℕ
 earlierIndexAt w size e f y x = if ltb x w then indexOf size e (f (y * w + x)) else 0
 
 unfoldable pub earlierPacked : ℕ → ℕ → Picture → Picture → Picture
 earlierPacked w size e f r = packedAt size (earlierIndexAt w size e f (r / packedWidth size w)) (r % packedWidth size w)
 
--- the other kinds are as they were
+-- a table packs by it; document 02 (ii) leaves the other kinds alone
 unfoldable pub earlierForward : Step → List ℕ → Picture → Picture
 earlierForward s ds f =
     if eqb (s .kind) 3 then earlierPacked (s .width) (s .size) (partOf s ds) f else forward s ds f

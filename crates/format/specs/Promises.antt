@@ -90,8 +90,8 @@ module _ (w h : ℕ) (cs ds : List ℕ) where
       → SameFront (records w h cs) image (storeStrip w h cs ds picture strip)
       → (rebuildAnswer w h cs ds image ≡ 0) × (rebuildImage w h cs ds image ≡ written (h * w) (pixels picture) image)
 
-  -- document 02 (ii): so does rebuilding a strip that was stored earlier, by document 01's rule of zero bits; no answer of
-  -- storing is other than by that rule
+  -- document 02 (ii): rebuilding a strip that was stored earlier, with document 01's zero bits, gives its picture, every
+  -- byte beyond kept
   abbrev pub RebuildsEarlier : Type 0
   RebuildsEarlier = (picture strip image : List ℕ) → AreBytes picture
       → earlierAnswer w h cs ds picture strip ≡ 0
@@ -99,6 +99,7 @@ module _ (w h : ℕ) (cs ds : List ℕ) where
       → SameFront (records w h cs) image (earlierStrip w h cs ds picture strip)
       → (rebuildAnswer w h cs ds image ≡ 0) × (rebuildImage w h cs ds image ≡ written (h * w) (pixels picture) image)
 
+  -- and storing answers as it did by that rule
   abbrev pub AnswersAsEarlier : Type 0
   AnswersAsEarlier = (picture strip : List ℕ)
       → storeAnswer w h cs ds picture strip ≡ earlierAnswer w h cs ds picture strip
@@ -118,11 +119,11 @@ module _ (w h : ℕ) (cs ds : List ℕ) where
       (storeAnswer w h cs ds (b .picture) (b .strip) ≡ 0)
       × (storeStrip w h cs ds (b .picture) (b .strip) ≡ b .strip)
 
-  -- document 02 (ii): an earlier strip becomes one that retouching begins from: it is rebuilt, and its picture stored
+  -- document 02 (ii): an earlier strip is rebuilt, and its picture stored into `new`: retouching begins from these two
   abbrev pub converted : List ℕ → List ℕ → Buffers
-  converted image strip =
+  converted image new =
       let picture = rebuildImage w h cs ds image in
-      record { picture = picture; strip = storeStrip w h cs ds picture strip }
+      record { picture = picture; strip = storeStrip w h cs ds picture new }
 
   abbrev pub ConvertsEarlier : Type 0
   ConvertsEarlier = (picture strip image new : List ℕ) → AreBytes picture

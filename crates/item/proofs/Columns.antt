@@ -14,7 +14,7 @@ use Rattle.format.specs.Pixel.{pixel}
 use Rattle.format.specs.Picture.{Picture}
 use Rattle.format.specs.ColorTable.{perPixel, range, indexOf, hasEntry, indexAt, digits}
 use Rattle.format.specs.Made.{columns, made}
-use Rattle.format.proofs.ColorTable.{digits-same, digits-below, index-own, index-last}
+use Rattle.format.proofs.ColorTable.{digits-same, digits-below, index-inside, index-last}
 use Rattle.color_table.specs.Pack.{uniform}
 use Rattle.color_table.proofs.Digits.{base-of, small-more, weight-small}
 use Rattle.format.specs.declared.Made.{Made}
@@ -116,7 +116,7 @@ module _ (w size : ℕ) (e f : Picture) (y : ℕ) where
   byte-last n x l = digits-same u n (λ k. indexAt w size e f y (x + k)) (λ k. indexOf size e (f (y * w + x))) (λ k i. last k)
     where
       last : (k : ℕ) → indexAt w size e f y (x + k) ≡ indexOf size e (f (y * w + x))
-      last zero = rw (add-zero x) (index-own w size e f y x (omega arith))
+      last zero = rw (add-zero x) (index-inside w size e f y x (omega arith))
       last (suc k) =
           let z : w - 1 ≡ x = omega arith in
           index-last w size e f y (x + suc k) (omega arith) ∙ ap (λ (c : ℕ). indexOf size e (f (y * w + c))) z
@@ -145,7 +145,7 @@ module _ (w size : ℕ) (e f : Picture) (y : ℕ) where
           a
           ∙ rw (b, c)
           (joined-made size e (was (y * w + x)) (some t (columns w y m (x + 1))) (f (y * w + x)) (recordFrom w size e f y m (x + 1))
-          ∙ rw (z, columns-here m x l, byte-more m x, index-own w size e f y x l, lacking (y * w + x)))
+          ∙ rw (z, columns-here m x l, byte-more m x, index-inside w size e f y x l, lacking (y * w + x)))
 
       -- the row's last column
       pub columns-last : (n m x : ℕ) (r first : Made) → n ≡ suc m → w ≡ x + 1 → r ≡ repeatedMade size e n first → first ≡ made (was (y * w + x)) (f (y * w + x))
@@ -173,7 +173,7 @@ module _ (w size : ℕ) (e f : Picture) (y : ℕ) where
           go : Dec (x + 1 < w) → (x + 1 < w → some t (columns w y n (x + 1)) ≡ false → byte n (x + 1) < u ^ n) → byte (suc n) x < u ^ suc n
           go (yes m) ih =
               let r = ih m (or-right (t (y * w + x)) (some t (columns w y n (x + 1))) c) in
-              rw (byte-more n x, index-own w size e f y x l, pow-succ' u n) (small-more (u ^ n) (indexOf size e (f (y * w + x))) u (byte n (x + 1)) (omega (arith, i)) r)
+              rw (byte-more n x, index-inside w size e f y x l, pow-succ' u n) (small-more (u ^ n) (indexOf size e (f (y * w + x))) u (byte n (x + 1)) (omega (arith, i)) r)
           go (no m) ih = rw (byte-last (suc n) x (omega arith)) (digits-below u pos (suc n) (λ k. indexOf size e (f (y * w + x))) (λ k j. omega (arith, i)))
 
       pub columns-room : size ≤ 256 → (n x : ℕ) → n < perPixel size → x < w → Room size (made (some t (columns w y n x)) (recordFrom w size e f y n x))

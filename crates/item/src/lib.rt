@@ -137,8 +137,8 @@ fn neighbor(
     item(chain, k, q, data, picture, point)
 }
 
-// The record of n positions of row y from column x on, by the table that is record k. The index of the row's last column
-// is at the positions after it too.
+// The record of n positions of row y from column x on, by the table that is record k. The index of the row's last
+// column is at the positions after it too.
 fn packed(
     chain: Chain,
     k: usize,

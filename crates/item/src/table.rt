@@ -33,7 +33,7 @@ fn index_of(s: Step, data: &[u8], v: Pixel) -> usize
     scan(part_of(data, s), s.size, word_of(v))
 }
 
-// The byte of n indices i.
+// The byte of n positions that all have the index i.
 fn repeated_index(i: usize, n: usize, range: usize) -> u8
     requires { ⌜ (i < range) × (range ^ n ≤ 256) ⌝ }
     ensures { λ r. ⌜ r ≡ digits range n (λ k. i) ⌝ }

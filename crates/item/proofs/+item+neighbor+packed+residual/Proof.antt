@@ -1,5 +1,5 @@
 -- The proof of the calls that item, neighbor, packed and residual make of each other. An item after k records asks for
--- items after k - 1, by way of a record's n columns or of a residual's neighbors. A record has at most 8 columns, so
+-- items after k - 1, by way of a record's n positions or of a residual's neighbors. A record has at most 8 positions, so
 -- that 16 * k leaves room for the calls between.
 use mathlib.Core.Path.{ap, _∙_}
 use Prim.Native.Nat.{ℕ, _+_, _-_, _*_, _<_}

@@ -1,5 +1,5 @@
--- `pack_record` meets its contract: before each turn b holds the first k indices and, past the row's end, `index` is the
--- next one.
+-- `pack_record` meets its contract: before each turn b holds the first k indices and, past the row's end, `index` is
+-- the next one.
 use mathlib.Core.Path.{_≡_, sym, ap, _∙_}
 use Prim.Native.Nat.{ℕ, _≤_, _<_, _+_, _-_, _^_}
 use native.Mathlib.Nat.{pow-zero}

@@ -68,13 +68,17 @@ impl<'a> Buffers<'a> {
         row_ends(self.given, self.picture.slice(), self.strip.slice())
     }
 
-    /// The strip of what the picture's buffer holds, by the exported call.
+    /// The strip of what the picture's buffer holds.
     pub fn stored_afresh(&self, strip_len: usize) -> Vec<u8> {
-        let Given { width, height, .. } = *self.given;
-        let (chain, data) = (self.chain.slice(), self.data.slice());
-        let mut strip = vec![165; strip_len];
-        let answer = calls::store(width, height, chain, data, self.picture.slice(), &mut strip);
-        assert_eq!(answer, 0, "{}", self.given.shown());
-        strip
+        stored(self.given, self.picture.slice(), strip_len)
     }
+}
+
+/// The strip of an accepted picture by the exported call, in a buffer of this length.
+pub fn stored(given: &Given, picture: &[u8], strip_len: usize) -> Vec<u8> {
+    let (chain, data) = (&given.chain, &given.data);
+    let mut strip = vec![165; strip_len];
+    let answer = calls::store(given.width, given.height, chain, data, picture, &mut strip);
+    assert_eq!(answer, 0, "{}", given.shown());
+    strip
 }

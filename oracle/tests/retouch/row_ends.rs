@@ -2,7 +2,7 @@
 //! record too. A list begins from a strip stored under this rule; one that was stored earlier, under
 //! document 01's zero bits, is rebuilt and stored first.
 
-use crate::buffers::Buffers;
+use crate::buffers::{self, Buffers};
 use crate::compared::{accepted, Compared, LISTED};
 use oracle::calls;
 use oracle::given::Given;
@@ -93,14 +93,5 @@ fn lists_without_converting() {
 }
 
 fn stored(given: &Given, picture: &[u8]) -> Vec<u8> {
-    let Given {
-        width,
-        height,
-        chain,
-        data,
-    } = given;
-    let mut strip = vec![165; given.valid().strip_len()];
-    let answer = calls::store(*width, *height, chain, data, picture, &mut strip);
-    assert_eq!(answer, 0);
-    strip
+    buffers::stored(given, picture, given.valid().strip_len())
 }

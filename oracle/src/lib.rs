@@ -38,6 +38,9 @@ pub mod scenes;
 pub mod row_ends;
 
 #[cfg(rust_source)]
+pub mod means;
+
+#[cfg(rust_source)]
 pub mod shipments;
 
 #[cfg(rust_source)]

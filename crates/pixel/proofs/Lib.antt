@@ -1,6 +1,7 @@
 pub mod Cells
 pub mod Distance
 pub mod Front
+pub mod Mean
 pub mod Part
 pub mod Channels
 pub mod Blocks

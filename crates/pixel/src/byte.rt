@@ -1,19 +1,21 @@
 // Arithmetic on single bytes. Clamping is by saturating sums and differences of bytes, which compile to one instruction
 // each and to no branch.
 ghost use mathlib.Core.Path.{_≡_};
-ghost use Prim.Native.Nat.{_+_, _-_, _<_, _≤_, min};
+ghost use Prim.Native.Nat.{_+_, _-_, _/_, _<_, _≤_, min};
+ghost use lib.Bits.{bitXor};
 ghost use Rattle.format.specs.Byte.{avg, distance as distanceOf, clampFull, clampHalf};
 
-fn wide(x: u8) -> u16
-    ensures { λ r. ⌜ r ≡ x ⌝ }
+fn half_differing(a: u8, b: u8) -> u8
+    ensures { λ r. ⌜ r ≡ bitXor a b / 2 ⌝ }
 {
-    x as u16
+    (a ^ b) >> 1
 }
 
+// The shared bits plus half of the differing bits.
 pub fn average2(a: u8, b: u8) -> u8
     ensures { λ r. ⌜ r ≡ avg a b ⌝ }
 {
-    ((wide(a) + wide(b)) / 2) as u8
+    (a & b) + half_differing(a, b)
 }
 
 // The average of two averages, each rounded down.

@@ -1,6 +1,5 @@
 // A pixel by value. Loops read and write whole pixels, so that a turn is one call.
 use crate::byte::average2;
-use crate::byte::average4;
 use crate::byte::clamp_add_subtract_full;
 use crate::byte::clamp_add_subtract_half;
 use crate::byte::distance;
@@ -83,16 +82,11 @@ pub fn average_pixels(u: Pixel, v: Pixel) -> Pixel
     }
 }
 
-// In one expression a channel, which compiles to fewer moves between channels than averages of whole pixels do.
+// The average of two averages.
 pub fn average_four_pixels(a: Pixel, b: Pixel, c: Pixel, d: Pixel) -> Pixel
     ensures { λ r. ⌜ r ≡ each avg (each avg a b) (each avg c d) ⌝ }
 {
-    Pixel {
-        red: average4(a.red, b.red, c.red, d.red),
-        green: average4(a.green, b.green, c.green, d.green),
-        blue: average4(a.blue, b.blue, c.blue, d.blue),
-        alpha: average4(a.alpha, b.alpha, c.alpha, d.alpha),
-    }
+    average_pixels(average_pixels(a, b), average_pixels(c, d))
 }
 
 pub fn clamp_full_pixels(l: Pixel, t: Pixel, tl: Pixel) -> Pixel

@@ -68,11 +68,13 @@ fn add_back(rows: &mut [u8], back: usize, from: usize, to: usize)
     }
 }
 
+// The modes of means, here and below, read the residual last: the compiler then adds to it in place, with no copy.
 fn byte_average(rows: &[u8], back: usize, other: usize, i: usize) -> u8
     requires { ⌜ (back ≤ i) × (other ≤ i) × (i < length (now rows)) ⌝ }
     ensures { λ r. ⌜ r ≡ bytewise avg back other (byteAt (now (rows .entry))) i ⌝ }
 {
-    wrapping_add_u8(rows[i], average2(rows[i - back], rows[i - other]))
+    let predicted = average2(rows[i - back], rows[i - other]);
+    wrapping_add_u8(rows[i], predicted)
 }
 
 // Each byte gains the average of two bytes before it.
@@ -129,10 +131,8 @@ fn gain_5(rows: &[u8], w: usize, i: usize, left: Pixel) -> Pixel
 {
     let t = pixel_at(rows, i - w);
     let tr = pixel_at(rows, i - w + 1);
-    add_pixels(
-        pixel_at(rows, i),
-        average_pixels(average_pixels(left, tr), t),
-    )
+    let predicted = average_pixels(average_pixels(left, tr), t);
+    add_pixels(pixel_at(rows, i), predicted)
 }
 
 fn apply_predictor_transform_5(rows: &mut [u8], w: usize, from: usize, to: usize)
@@ -154,7 +154,8 @@ fn gain_6(rows: &[u8], w: usize, i: usize, left: Pixel) -> Pixel
     ensures { λ r. ⌜ r ≡ gains (around 6 w) (pixels (now (rows .entry))) i ⌝ }
 {
     let tl = pixel_at(rows, i - w - 1);
-    add_pixels(pixel_at(rows, i), average_pixels(left, tl))
+    let predicted = average_pixels(left, tl);
+    add_pixels(pixel_at(rows, i), predicted)
 }
 
 fn apply_predictor_transform_6(rows: &mut [u8], w: usize, from: usize, to: usize)
@@ -176,7 +177,8 @@ fn gain_7(rows: &[u8], w: usize, i: usize, left: Pixel) -> Pixel
     ensures { λ r. ⌜ r ≡ gains (around 7 w) (pixels (now (rows .entry))) i ⌝ }
 {
     let t = pixel_at(rows, i - w);
-    add_pixels(pixel_at(rows, i), average_pixels(left, t))
+    let predicted = average_pixels(left, t);
+    add_pixels(pixel_at(rows, i), predicted)
 }
 
 fn apply_predictor_transform_7(rows: &mut [u8], w: usize, from: usize, to: usize)
@@ -200,7 +202,8 @@ fn gain_10(rows: &[u8], w: usize, i: usize, left: Pixel) -> Pixel
     let t = pixel_at(rows, i - w);
     let tr = pixel_at(rows, i - w + 1);
     let tl = pixel_at(rows, i - w - 1);
-    add_pixels(pixel_at(rows, i), average_four_pixels(left, tl, t, tr))
+    let predicted = average_four_pixels(left, tl, t, tr);
+    add_pixels(pixel_at(rows, i), predicted)
 }
 
 fn apply_predictor_transform_10(rows: &mut [u8], w: usize, from: usize, to: usize)

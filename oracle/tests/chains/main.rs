@@ -10,6 +10,9 @@ fn chains_are_compared_with_the_rust() {}
 mod compared;
 
 #[cfg(rust_source)]
+mod means;
+
+#[cfg(rust_source)]
 mod rebuild;
 
 #[cfg(rust_source)]

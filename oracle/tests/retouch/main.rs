@@ -22,6 +22,9 @@ mod known;
 mod lists;
 
 #[cfg(rust_source)]
+mod means;
+
+#[cfg(rust_source)]
 mod named;
 
 #[cfg(rust_source)]

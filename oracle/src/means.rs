@@ -1,0 +1,55 @@
+//! Document 02 (iii), the mean: maps on which every two bytes meet among the neighbors of a pixel.
+
+use crate::given::{record, Given, PREDICTOR};
+
+/// The modes that take a mean.
+pub const MODES: [u8; 7] = [5, 6, 7, 8, 9, 10, 13];
+
+/// Which neighbors have the second of two bytes: bit 0 is T's, bit 1 TR's and bit 2 TL's. L and the
+/// others have the first. Every mean of two neighbors, or of two means, is of both bytes by one of
+/// these.
+pub const SECONDS: std::ops::Range<u8> = 1..8;
+
+/// A map has this many cells in each direction, of three columns and two rows. The neighbors of the
+/// lower row's middle pixel are in its cell.
+const CELLS: u32 = 128;
+const WIDTH: u32 = 3 * CELLS;
+const HEIGHT: u32 = 2 * CELLS;
+
+/// One mode in every block.
+pub fn given(mode: u8, bits: u8) -> Given {
+    let blocks = WIDTH.div_ceil(1 << bits) * HEIGHT.div_ceil(1 << bits);
+    let data = [0, mode, 0, 0].repeat(blocks as usize);
+    Given {
+        width: WIDTH,
+        height: HEIGHT,
+        chain: record(PREDICTOR, bits, 0, 0, data.len() as u32),
+        data,
+    }
+}
+
+/// Every two bytes in some channel of some cell.
+pub fn map(seconds: u8) -> Vec<u8> {
+    let width = WIDTH as usize;
+    let mut map = vec![[0; 4]; (WIDTH * HEIGHT) as usize];
+    for (cell, (x, y)) in middles().enumerate() {
+        let two_bytes = [0, 1, 2, 3].map(|channel| (4 * cell + channel) as u16);
+        let first = two_bytes.map(|two| (two >> 8) as u8);
+        let second = two_bytes.map(|two| two as u8);
+        let neighbor = |bit: u8| match seconds >> bit & 1 {
+            1 => second,
+            _ => first,
+        };
+        let at = y as usize * width + x as usize;
+        map[at - 1] = first;
+        map[at - width] = neighbor(0);
+        map[at - width + 1] = neighbor(1);
+        map[at - width - 1] = neighbor(2);
+    }
+    map.into_flattened()
+}
+
+/// The pixels that are predicted from their cells.
+pub fn middles() -> impl Iterator<Item = (u32, u32)> {
+    (0..CELLS).flat_map(|row| (0..CELLS).map(move |column| (3 * column + 1, 2 * row + 1)))
+}

@@ -6,8 +6,8 @@ use crate::given::{record, Given, PREDICTOR};
 pub const MODES: [u8; 7] = [5, 6, 7, 8, 9, 10, 13];
 
 /// Which neighbors have the second of two bytes: bit 0 is T's, bit 1 TR's and bit 2 TL's. L and the
-/// others have the first. Every mean of two neighbors, or of two means, is of both bytes by one of
-/// these.
+/// others have the first. Each mean that a mode takes has the first on one side and the second on
+/// the other by some of these.
 pub const SECONDS: std::ops::Range<u8> = 1..8;
 
 /// A map has this many cells in each direction, of three columns and two rows. The neighbors of the

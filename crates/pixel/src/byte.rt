@@ -11,7 +11,7 @@ fn half_differing(a: u8, b: u8) -> u8
     (a ^ b) >> 1
 }
 
-// The shared bits plus half of the differing bits.
+// The shared bits plus half of the differing bits: no division, and no sum that a byte does not hold.
 pub fn average2(a: u8, b: u8) -> u8
     ensures { λ r. ⌜ r ≡ avg a b ⌝ }
 {

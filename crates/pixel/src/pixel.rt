@@ -82,7 +82,6 @@ pub fn average_pixels(u: Pixel, v: Pixel) -> Pixel
     }
 }
 
-// The average of two averages.
 pub fn average_four_pixels(a: Pixel, b: Pixel, c: Pixel, d: Pixel) -> Pixel
     ensures { λ r. ⌜ r ≡ each avg (each avg a b) (each avg c d) ⌝ }
 {

@@ -23,18 +23,38 @@ fn every_two_bytes() {
     compared.finish(&[0]);
 }
 
-/// What the maps are for: L and a neighbor with the second byte are every two bytes.
+/// What the maps are for: on some of them each mean that a mode takes is of every two bytes.
 #[test]
 fn every_two_bytes_meet() {
     let width = given(MODES[0], 2).width as usize;
+    let mut met = [(); 7].map(|()| BTreeSet::new());
     for seconds in SECONDS {
         let map = map(seconds);
         let (pixels, _) = map.as_chunks::<4>();
-        let back = [width, width - 1, width + 1][seconds.trailing_zeros() as usize];
-        let met: BTreeSet<(u8, u8)> = middles()
-            .map(|(x, y)| y as usize * width + x as usize)
-            .flat_map(|at| std::iter::zip(pixels[at - 1], pixels[at - back]))
-            .collect();
-        assert_eq!(met.len(), 256 * 256);
+        for (x, y) in middles() {
+            let at = y as usize * width + x as usize;
+            let neighbors = [1, width, width - 1, width + 1].map(|back| pixels[at - back]);
+            for channel in 0..4 {
+                let means = means(neighbors.map(|neighbor| neighbor[channel]));
+                for (met, two) in met.iter_mut().zip(means) {
+                    met.insert(two);
+                }
+            }
+        }
     }
+    assert_eq!(met.map(|met| met.len()), [256 * 256; 7]);
+}
+
+/// What the means of modes 5 to 10 and 13 are of, by document 01.
+fn means([l, t, tr, tl]: [u8; 4]) -> [(u8, u8); 7] {
+    let mean = |a: u8, b: u8| ((u16::from(a) + u16::from(b)) / 2) as u8;
+    [
+        (l, tr),
+        (mean(l, tr), t),
+        (l, tl),
+        (l, t),
+        (tl, t),
+        (t, tr),
+        (mean(l, tl), mean(t, tr)),
+    ]
 }

@@ -6,7 +6,7 @@ use oracle::means::{given, map, middles, MODES, SECONDS};
 use oracle::model::Desk;
 use oracle::random::Xorshift;
 
-/// A list that paints each pixel whose neighbors hold two of the bytes. The strip is then the desk's.
+/// A list that paints the middle pixel of each cell. The strip is then the desk's.
 #[test]
 fn every_two_bytes() {
     let mut random = Xorshift::new(0x80DE_B1FE_3B16_96B1);

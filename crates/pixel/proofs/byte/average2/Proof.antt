@@ -10,4 +10,4 @@ average2-spec =
     (tie.spec
     (λ c κs. search needs)
     (λ c. search (needs, mean-bits (c .before .args .a) (c .before .args .b)))
-    (λ c. cc (mean-bits (c .before .args .a) (c .before .args .b))))
+    (λ c. search (needs, mean-bits (c .before .args .a) (c .before .args .b))))

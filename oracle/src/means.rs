@@ -6,11 +6,11 @@ use crate::given::{record, Given, PREDICTOR};
 pub const MODES: [u8; 7] = [5, 6, 7, 8, 9, 10, 13];
 
 /// Which neighbors have the second of two bytes: bit 0 is T's, bit 1 TR's and bit 2 TL's. L and the
-/// others have the first. Each mean that a mode takes has the first on one side and the second on
-/// the other by some of these.
-pub const SECONDS: std::ops::Range<u8> = 1..8;
+/// others have the first. For each mean that a mode takes, one of these has the first byte on one
+/// side and the second on the other.
+pub const SECOND_AT: std::ops::Range<u8> = 1..8;
 
-/// A map has this many cells in each direction, of three columns and two rows. The neighbors of the
+/// A map is this many cells wide and high; a cell is three columns by two rows. The neighbors of the
 /// lower row's middle pixel are in its cell.
 const CELLS: u32 = 128;
 const WIDTH: u32 = 3 * CELLS;
@@ -29,14 +29,14 @@ pub fn given(mode: u8, bits: u8) -> Given {
 }
 
 /// Every two bytes in some channel of some cell.
-pub fn map(seconds: u8) -> Vec<u8> {
+pub fn map(second_at: u8) -> Vec<u8> {
     let width = WIDTH as usize;
     let mut map = vec![[0; 4]; (WIDTH * HEIGHT) as usize];
     for (cell, (x, y)) in middles().enumerate() {
-        let two_bytes = [0, 1, 2, 3].map(|channel| (4 * cell + channel) as u16);
-        let first = two_bytes.map(|two| (two >> 8) as u8);
-        let second = two_bytes.map(|two| two as u8);
-        let neighbor = |bit: u8| match seconds >> bit & 1 {
+        let pairs = [0, 1, 2, 3].map(|channel| (4 * cell + channel) as u16);
+        let first = pairs.map(|pair| (pair >> 8) as u8);
+        let second = pairs.map(|pair| pair as u8);
+        let neighbor = |bit: u8| match second_at >> bit & 1 {
             1 => second,
             _ => first,
         };
@@ -49,7 +49,7 @@ pub fn map(seconds: u8) -> Vec<u8> {
     map.into_flattened()
 }
 
-/// The pixels that are predicted from their cells.
+/// The middle pixel of each cell's lower row.
 pub fn middles() -> impl Iterator<Item = (u32, u32)> {
     (0..CELLS).flat_map(|row| (0..CELLS).map(move |column| (3 * column + 1, 2 * row + 1)))
 }

@@ -1,21 +1,14 @@
 // Arithmetic on single bytes. Clamping is by saturating sums and differences of bytes, which compile to one instruction
 // each and to no branch.
 ghost use mathlib.Core.Path.{_≡_};
-ghost use Prim.Native.Nat.{_+_, _-_, _/_, _<_, _≤_, min};
-ghost use lib.Bits.{bitXor};
+ghost use Prim.Native.Nat.{_+_, _-_, _<_, _≤_, min};
 ghost use Rattle.format.specs.Byte.{avg, distance as distanceOf, clampFull, clampHalf};
-
-fn half_differing(a: u8, b: u8) -> u8
-    ensures { λ r. ⌜ r ≡ bitXor a b / 2 ⌝ }
-{
-    (a ^ b) >> 1
-}
 
 // The shared bits plus half of the differing bits: no division, and no sum that a byte does not hold.
 pub fn average2(a: u8, b: u8) -> u8
     ensures { λ r. ⌜ r ≡ avg a b ⌝ }
 {
-    (a & b) + half_differing(a, b)
+    (a & b) + ((a ^ b) >> 1)
 }
 
 // The average of two averages, each rounded down.

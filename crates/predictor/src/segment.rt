@@ -68,7 +68,7 @@ fn add_back(rows: &mut [u8], back: usize, from: usize, to: usize)
     }
 }
 
-// Modes 5 to 10 read the residual last: the compiler then adds to it in place, with no copy.
+// Modes 5 to 10 read the residual last: the compiler then adds to it in place.
 fn byte_average(rows: &[u8], back: usize, other: usize, i: usize) -> u8
     requires { ⌜ (back ≤ i) × (other ≤ i) × (i < length (now rows)) ⌝ }
     ensures { λ r. ⌜ r ≡ bytewise avg back other (byteAt (now (rows .entry))) i ⌝ }

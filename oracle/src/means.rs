@@ -6,8 +6,8 @@ use crate::given::{record, Given, PREDICTOR};
 pub const MODES: [u8; 7] = [5, 6, 7, 8, 9, 10, 13];
 
 /// Which neighbors have the second of two bytes: bit 0 is T's, bit 1 TR's and bit 2 TL's. L and the
-/// others have the first. For each mean that a mode takes, one of these has the first byte on one
-/// side and the second on the other.
+/// others have the first. For each mean that a mode takes, at least one of these has the first
+/// byte on one side and the second on the other.
 pub const SECOND_AT: std::ops::Range<u8> = 1..8;
 
 /// A map is this many cells wide and high; a cell is three columns by two rows. The neighbors of the

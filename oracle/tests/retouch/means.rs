@@ -7,8 +7,8 @@ use oracle::means::{self, MODES, SECOND_AT};
 use oracle::model::Desk;
 use oracle::random::Xorshift;
 
-/// A list that paints the middle pixel of each cell. The strip is then the desk's; its answers would
-/// take it a whole picture each.
+/// A list that paints the middle pixel of each cell. The strip is then the desk's. The desk is not
+/// asked for each answer, since it stores the whole picture for one.
 #[test]
 fn every_two_bytes() {
     let mut random = Xorshift::new(0x80DE_B1FE_3B16_96B1);

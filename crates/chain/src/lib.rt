@@ -1,4 +1,6 @@
 // A chain's bytes read once into plain values, or refused.
+#![tactic(auto)]
+
 ghost use Rattle.std.specs.Prelude.{◌≡◌, true, ◌+◌, ◌*◌, ◌%◌, ◌<◌, ◌≤◌, length};
 ghost use Rattle.format.specs.Sizes.{Sized};
 ghost use Rattle.format.specs.Chain.{le16 as le16Of, le32 as le32Of, record_at, narrowed};
@@ -13,7 +15,7 @@ use pixel::stride::{Expanded, Packed, packed_width};
 
 // A chain as plain values, for a picture of its width and height. `refusal` is 0 where the chain is valid: only then do
 // the other fields say anything. `strip` is the strip's width, which is the current width after the last record.
-#[derive(Drop)]
+#[derive(Clone, Copy)]
 pub struct Chain {
     pub refusal: u32,
     pub count: usize,

@@ -1,4 +1,6 @@
 // The color map as the file stores it, and as the color table takes it.
+#![tactic(auto)]
+
 ghost use Rattle.std.specs.Prelude.{◌≡◌, ◌-◌, ◌<◌, ◌≤◌, length};
 ghost use Rattle.format.specs.Byte.{add, sub};
 ghost use Rattle.format.specs.Picture.{byte_at, written_bytes};

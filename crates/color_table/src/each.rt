@@ -11,7 +11,7 @@ use crate::find::find;
 use pixel::word::{join, put_word, word_at};
 
 // How a row of `width` pixels is packed by a table of `size` entries: n indices to a record, each below `range`.
-#[derive(Drop)]
+#[derive(Clone, Copy)]
 pub struct Packing {
     pub width: usize,
     pub size: usize,

@@ -1,4 +1,6 @@
 // The color table: unpacking indices in place, and storing a picture as packed indices.
+#![tactic(auto)]
+
 pub mod accept;
 mod each;
 pub mod find;

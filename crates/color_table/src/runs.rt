@@ -27,7 +27,7 @@ fn fill(out: &mut [u8], j: usize, m: usize, w: u32)
 }
 
 // How many groups of sixteen pixels are packed, the pixel before the next one, and the record of n such pixels.
-#[derive(Drop)]
+#[derive(Clone, Copy)]
 struct Last {
     groups: usize,
     word: u32,

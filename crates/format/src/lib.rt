@@ -1,8 +1,9 @@
 // What the format says, as definitions in specs/ and laws in proofs/. The code is the types that definitions and code
 // share.
+#![tactic(auto)]
 
 // A pixel by value.
-#[derive(Drop)]
+#[derive(Clone, Copy)]
 pub struct Pixel {
     pub red: u8,
     pub green: u8,
@@ -11,7 +12,7 @@ pub struct Pixel {
 }
 
 // A record of a chain: its fields, and the current width where its turn comes. `zero` is its last four bytes.
-#[derive(Drop)]
+#[derive(Clone, Copy)]
 pub struct Step {
     pub kind: u32,
     pub bits: u32,
@@ -23,7 +24,7 @@ pub struct Step {
 }
 
 // What the check of a record finds.
-#[derive(Drop)]
+#[derive(Clone, Copy)]
 pub enum Checked {
     Taken(Step),
     // Kind over 3.
@@ -39,7 +40,7 @@ pub enum Checked {
 }
 
 // What making an item of a stage gives: the item, or none where a pixel without entry reaches the table in it.
-#[derive(Drop)]
+#[derive(Clone, Copy)]
 pub enum Made {
     Item(Pixel),
     Missing,

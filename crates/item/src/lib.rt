@@ -1,5 +1,7 @@
 // One item of a stage, made of the picture around it, with no pass over the picture. An item is a pixel of the
 // picture or of a later stage, or a record of the strip.
+#![tactic(auto)]
+
 pub mod around;
 pub mod block;
 pub mod place;
@@ -27,7 +29,7 @@ use pixel::pixel::pixel_at;
 use pixel::stride::{Expanded, packed_width, per_pixel};
 
 // The point that is painted: its index in the picture, and its color.
-#[derive(Drop)]
+#[derive(Clone, Copy)]
 pub struct Point {
     pub index: usize,
     pub color: Pixel,

@@ -5,7 +5,7 @@ ghost use Rattle.std.specs.Prelude.{◌≡◌, ◌+◌, ◌*◌, ◌/◌, ◌%�
 use pixel::stride::{Expanded, Packed};
 
 // Column x of row y.
-#[derive(Drop)]
+#[derive(Clone, Copy)]
 pub struct Place {
     pub x: usize,
     pub y: usize,

@@ -1,5 +1,7 @@
 // The calls for the Rust host: numbers and byte slices. Each contract gives the number and every byte of every lent
 // buffer, on every input.
+#![tactic(auto)]
+
 ghost use Rattle.std.specs.Prelude.{◌≡◌};
 ghost use Rattle.format.specs.Pixel.{pixel};
 ghost use Rattle.format.specs.Calls.{rebuild_answer, rebuild_image, store_answer, store_strip};

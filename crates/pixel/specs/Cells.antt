@@ -10,7 +10,7 @@ pub record Cells (P : Type 0) : Type 0 where
   pub size : ℕ
 
 abbrev pub byte_cells : Cells ℕ
-byte_cells = record { get = byte_at; put = set; size = 1 }
+byte_cells = record { get = byte_at; put = slice_set; size = 1 }
 
 -- pixel i replaced
 unfoldable pub put_pixel : List ℕ → ℕ → Pixel → List ℕ

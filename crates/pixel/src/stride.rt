@@ -4,11 +4,11 @@ ghost use Rattle.format.specs.ColorTable.{per_pixel, packed_width};
 ghost use Rattle.pixel.specs.Stride.{Places};
 
 // Columns of a row of packed pixels.
-#[derive(Drop)]
+#[derive(Clone, Copy)]
 pub struct Packed(pub usize);
 
 // Columns of a row of the picture.
-#[derive(Drop)]
+#[derive(Clone, Copy)]
 pub struct Expanded(pub usize);
 
 // How many indices a packed pixel holds.

@@ -12,7 +12,7 @@ use format::Pixel;
 use pixel::pixel::{add_pixels, pixel_at, put_pixel};
 
 // Four pixels side by side.
-#[derive(Drop)]
+#[derive(Clone, Copy)]
 struct Four {
     a: Pixel,
     b: Pixel,
@@ -42,7 +42,7 @@ fn sums_at(rows: &[u8], i: usize) -> Four
 
 // What a turn at pixel i starts from: the four pixels before it, and the sums of eight from it. The last two of the
 // four are read; carried by themselves they are not one vector to the compiler.
-#[derive(Drop)]
+#[derive(Clone, Copy)]
 struct Eight {
     before: Four,
     sums: Four,

@@ -1,4 +1,6 @@
 // The predictor transform, a row at a time.
+#![tactic(auto)]
+
 pub mod forward;
 pub mod inverse;
 mod left;

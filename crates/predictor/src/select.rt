@@ -12,7 +12,7 @@ use format::Pixel;
 use pixel::pixel::{add_pixels, pick_pixel, pixel_at, pixel_distance, put_pixel};
 
 // A pixel that is rebuilt, and whether the next one takes its left neighbor.
-#[derive(Drop)]
+#[derive(Clone, Copy)]
 struct Turn {
     pixel: Pixel,
     near: bool,

@@ -1,4 +1,6 @@
 // Rebuilding a picture in one buffer whose front holds the strip: each record is undone, last record first, row by row.
+#![tactic(auto)]
+
 pub mod row;
 
 ghost use Rattle.std.specs.Prelude.{◌≡◌, ◌<◌};

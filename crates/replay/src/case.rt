@@ -2,7 +2,7 @@
 ghost use Rattle.std.specs.Prelude.{◌+◌, ◌<◌};
 
 // A transform by itself.
-#[derive(Drop)]
+#[derive(Clone, Copy)]
 pub struct Single {
     pub transform: u8,
     pub size: usize,
@@ -13,7 +13,7 @@ pub struct Single {
 }
 
 // An exported call on a chain.
-#[derive(Drop)]
+#[derive(Clone, Copy)]
 pub struct Call {
     pub call: u8,
     pub answer: u32,
@@ -26,7 +26,7 @@ pub struct Call {
 }
 
 // A list of reports.
-#[derive(Drop)]
+#[derive(Clone, Copy)]
 pub struct Reports {
     pub calls: u32,
     pub colors_len: usize,

@@ -11,7 +11,7 @@ use crate::sizes::picture_len;
 use crate::transforms::{replay_color_map, replay_color_table, replay_pixels};
 use libc::STDIN_FILENO;
 
-#[derive(Drop)]
+#[derive(Clone, Copy)]
 pub enum Next {
     Compared {
         kind: u8,

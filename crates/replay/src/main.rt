@@ -1,5 +1,7 @@
 // Replays the oracle's list from standard input by the exported calls: every case byte by byte against the oracle's
 // answer, and transforms by themselves stored back.
+#![tactic(auto)]
+
 mod calls;
 mod case;
 mod entries;

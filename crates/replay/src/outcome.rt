@@ -1,7 +1,7 @@
 // What comparing a case found.
 
 // Whether the calls gave what the oracle gave, whether undoing them gives what they had, and whether one refused.
-#[derive(Drop)]
+#[derive(Clone, Copy)]
 pub enum Outcome {
     Compared {
         same: bool,

@@ -13,7 +13,7 @@ use format::Pixel;
 use item::Point;
 
 // `records` are those of the spots, where the answer is no refusal.
-#[derive(Drop)]
+#[derive(Clone, Copy)]
 pub struct Decision {
     pub answer: u32,
     pub spots: Spots,

@@ -1,4 +1,6 @@
 // Retouching: one pixel of the picture is painted, and the strip's records that it belongs to are made afresh.
+#![tactic(auto)]
+
 mod decide;
 mod mask;
 mod remake;

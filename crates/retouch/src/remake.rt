@@ -12,7 +12,7 @@ use format::{Made, Pixel};
 use item::{Point, item, refusal};
 
 // The refusal of the first record that cannot be made, or 0; if it is 0, the records.
-#[derive(Drop)]
+#[derive(Clone, Copy)]
 pub struct Remade {
     pub refusal: u32,
     pub records: [Pixel; 5],

@@ -12,7 +12,7 @@ use item::place::{expanded_place, packed_index};
 use pixel::stride::{Expanded, packed_width, per_pixel};
 
 // The first `count` of `records`: one, or five in the order of the spots.
-#[derive(Drop)]
+#[derive(Clone, Copy)]
 pub struct Spots {
     pub records: [usize; 5],
     pub count: usize,

@@ -1,5 +1,7 @@
 // The worked pictures of document 01 and of the format's text, and reports worked out from document 02, run through the
 // exported calls: a line for each call, with its number and the bytes that came out.
+#![tactic(auto)]
+
 mod calls;
 mod chains;
 mod color_pictures;

@@ -2,8 +2,7 @@
 use Rattle.std.proofs.Common.{◌≡◌, ℕ, ◌+◌, ◌*◌, ◌/◌, ◌%◌, ◌<◌, arith, rules}
 use Rattle.format.specs.Pixel.{pixel}
 use Rattle.pixel.specs.Word.{unword}
-use Rattle.pixel.proofs.word.join.Statement.{statement}
-use Rattle.pixel.proofs.word.join.Tie as tie
+use Rattle.pixel.proofs.word.join.Goals as goal
 
 joined : (r g b a : ℕ) → r < 256 → g < 256 → b < 256 → a < 256 → unword (r + 256 * g + 65536 * b + 16777216 * a) ≡ pixel r g b a
 unfolding unword
@@ -17,14 +16,5 @@ joined r g b a hr hg hb ha =
     let e3 : (r + 256 * g + 65536 * b + 16777216 * a) / 16777216 % 256 ≡ a = rw q3 (omega arith) in
     λ k. pixel (e0 k) (e1 k) (e2 k) (e3 k)
 
-pub join-spec : {M : Type 1} → statement M
-join-spec =
-    tie.close
-    (tie.spec
-    (λ c. search rules)
-    (λ c. search rules)
-    (λ c. search rules)
-    (λ c. search rules)
-    (λ c. search rules)
-    (λ c. search rules)
-    (λ c. let a = c.args in joined a.r a.g a.b a.a (omega arith) (omega arith) (omega arith) (omega arith)))
+pub returns : goal.returns
+returns c = let a = c.args in joined a.r a.g a.b a.a (omega arith) (omega arith) (omega arith) (omega arith)

@@ -1,0 +1,6 @@
+-- `packed_width` meets its contract.
+use Rattle.std.proofs.Common.{rules}
+use Rattle.pixel.proofs.stride.packed_width.Goals as goal
+
+pub returns : goal.returns
+returns c = rw c.per_pixel-n.ensures.0

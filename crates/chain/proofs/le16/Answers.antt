@@ -1,0 +1,22 @@
+-- `le16` meets its contract.
+use Prim.Native.Nat.{◌+◌}
+use mathlib.Core.Path.{refl}
+use borrow.Author.Rules.{rules}
+use native.Mathlib.Omega.{arith}
+use Rattle.chain.proofs.le16.Goals as goal
+
+pub overflow_cast-result : goal.overflow_cast-result
+overflow_cast-result c = omega (arith, c.shared_slice_known-1.given c.args.i)
+
+pub overflow_cast-result-2 : goal.overflow_cast-result-2
+overflow_cast-result-2 c = omega (arith, c.shared_slice_known-2-1.given (c.args.i + 1))
+
+pub overflow_mul-result : goal.overflow_mul-result
+overflow_mul-result c = omega (arith, c.shared_slice_known-2-1.given (c.args.i + 1))
+
+pub overflow_add-result-2 : goal.overflow_add-result-2
+overflow_add-result-2 c = omega (arith, c.shared_slice_known-1.given c.args.i, c.shared_slice_known-2-1.given (c.args.i + 1))
+
+pub returns : goal.returns
+returns c =
+    (refl, omega (arith, c.shared_slice_known-1.given c.args.i, c.shared_slice_known-2-1.given (c.args.i + 1)))

@@ -1,0 +1,18 @@
+-- `rebuild_row` meets its contract: before each turn the columns before x are rebuilt, and a turn takes them to the end
+-- of a block.
+use Rattle.std.proofs.Common.{◌≡◌, ◌-◌, ◌≤◌, length, refl, ◌∙◌, arith, rules}
+use Rattle.format.specs.Picture.{pixels}
+use Rattle.format.specs.Color.{inverse_color}
+use Rattle.pixel.specs.Cells.{pixel_cells, run}
+use Rattle.color.specs.Row.{pointwise, in_row}
+use Rattle.pixel.proofs.Blocks.{block_there}
+use Rattle.color.proofs.Blocks.{block_more}
+use Rattle.pixel.proofs.Rows.{run_zero, run_all}
+use Rattle.color.proofs.color.rebuild_row.Given as goal
+
+abbrev pub invariant-loop-x : goal.invariant-loop-x
+invariant-loop-x l =
+    (l.x ≤ l.width) × (length l.row ≡ length l.initial.row) × (l.row ≡ run pixel_cells (pointwise (in_row inverse_color l.bits (pixels l.blocks))) 0 l.x l.initial.row)
+
+abbrev pub decreases-loop-x : goal.decreases-loop-x
+decreases-loop-x l = l.width - l.x

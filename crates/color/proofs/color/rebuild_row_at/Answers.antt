@@ -1,0 +1,50 @@
+-- `rebuild_row_at` meets its contract: the row that is lent has the pixels from y * width on.
+use Rattle.std.proofs.Common.{◌+◌, ◌*◌, ◌/◌, ◌^◌, ◌≤◌, length, arith, rules}
+use Rattle.format.specs.Color.{inverse_color}
+use Rattle.pixel.proofs.Blocks.{row_there, data_there}
+use Rattle.color.proofs.Blocks.{row_blocks}
+use Rattle.color.proofs.Pointwise.{lent}
+use Rattle.color.proofs.color.rebuild_row_at.Goals as goal
+
+-- the row is inside the picture
+there : (s : tie.Start) → s.args.y * s.args.width + s.args.width ≤ s.args.height * s.args.width
+there s = row_there s.args.width s.args.height s.args.y (omega arith)
+
+-- and so are the data of its row of blocks
+bx : (c : tie.After-subsample-size)
+    → 4 * (c.before.before.before.args.y / 2 ^ c.before.before.before.args.bits * c.subsample-size.result) + 4 * c.subsample-size.result ≤ length c.before.before.before.args.blocks.now
+bx c = let p = c.before.before.before.requires in data_there _ _ _ _ _ p.0.1 p.0.2 _ c.subsample-size.ensures
+
+pub overflow_mul-a : goal.overflow_mul-a
+overflow_mul-a c = omega (arith, there c)
+
+pub overflow_mul-a-2 : goal.overflow_mul-a-2
+overflow_mul-a-2 c = omega (arith, there c)
+
+pub overflow_add-b : goal.overflow_add-b
+overflow_add-b c = omega (arith, there c)
+
+pub overflow_mul-c : goal.overflow_mul-c
+overflow_mul-c c = omega (arith, bx c)
+
+pub overflow_mul-c-2 : goal.overflow_mul-c-2
+overflow_mul-c-2 c = omega (arith, bx c)
+
+pub overflow_mul-d : goal.overflow_mul-d
+overflow_mul-d c = omega (arith, bx c)
+
+pub overflow_add-d : goal.overflow_add-d
+overflow_add-d c = omega (arith, bx c)
+
+pub slice_bounds-rebuild_row-end : goal.slice_bounds-rebuild_row-end
+slice_bounds-rebuild_row-end c = omega (arith, there c)
+
+pub slice_bounds-rebuild_row-end-2 : goal.slice_bounds-rebuild_row-end-2
+slice_bounds-rebuild_row-end-2 c = omega (arith, bx c)
+
+pub returns : goal.returns
+returns c =
+    let a = c.args in
+    lent _ _ a.y a.width _ _ c.rebuild_row.ensures
+    (row_blocks inverse_color a.width _ a.bits a.y _ c.requires.sized.1 c.requires.sized.2 _ c.subsample_size-bx.ensures)
+    (omega (arith, there c))

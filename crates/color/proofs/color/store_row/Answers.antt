@@ -1,0 +1,50 @@
+-- `store_row` meets its contract: the part of the data that is lent has the blocks of row y.
+use Rattle.std.proofs.Common.{◌+◌, ◌*◌, ◌/◌, ◌^◌, ◌≤◌, length, arith, rules}
+use Rattle.format.specs.Picture.{pixels}
+use Rattle.format.specs.Color.{transform_color, color_stored}
+use Rattle.pixel.proofs.Blocks.{data_there}
+use Rattle.color.specs.Row.{in_picture}
+use Rattle.color.proofs.Blocks.{row_blocks}
+use Rattle.color.proofs.Pointwise.{held}
+use Rattle.color.proofs.color.store_row.Goals as goal
+
+-- the data of the row's blocks
+bx : (c : tie.After-subsample-size)
+    → 4 * (c.before.before.before.args.y / 2 ^ c.before.before.before.args.bits * c.subsample-size.result) + 4 * c.subsample-size.result ≤ length c.before.before.before.args.blocks.now
+bx c = let p = c.before.before.before.requires in data_there _ _ _ _ _ p.0.1 p.0.2 _ c.subsample-size.ensures
+
+pub subsample_size-bx-requires : goal.subsample_size-bx-requires
+unfolding color_stored
+subsample_size-bx-requires c = search rules
+
+pub overflow_mul-c : goal.overflow_mul-c
+unfolding color_stored
+overflow_mul-c c = omega (arith, bx c)
+
+pub overflow_mul-c-2 : goal.overflow_mul-c-2
+unfolding color_stored
+overflow_mul-c-2 c = omega (arith, bx c)
+
+pub overflow_mul-d : goal.overflow_mul-d
+unfolding color_stored
+overflow_mul-d c = omega (arith, bx c)
+
+pub overflow_add-d : goal.overflow_add-d
+unfolding color_stored
+overflow_add-d c = omega (arith, bx c)
+
+pub slice_bounds-store_segments-end : goal.slice_bounds-store_segments-end
+unfolding color_stored
+slice_bounds-store_segments-end c = omega (arith, bx c)
+
+pub store_segments-requires : goal.store_segments-requires
+unfolding color_stored
+store_segments-requires c = search rules
+
+pub returns : goal.returns
+unfolding color_stored
+returns c =
+    let a = c.args in
+    held (in_picture transform_color a.width a.bits (pixels a.blocks.now)) _ a.y a.width _ _ c.store_segments.ensures
+    (row_blocks transform_color a.width _ a.bits a.y _ c.requires.sized.1 c.requires.sized.2 _ c.subsample_size-bx.ensures)
+    c.requires.width_in_bounds

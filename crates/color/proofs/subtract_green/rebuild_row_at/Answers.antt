@@ -1,0 +1,24 @@
+-- `rebuild_row_at` meets its contract: the row that is lent has the pixels from y * width on.
+use Rattle.std.proofs.Common.{◌+◌, ◌*◌, ◌≤◌, refl, arith, rules}
+use Rattle.pixel.proofs.Blocks.{row_there}
+use Rattle.color.proofs.Pointwise.{lent}
+use Rattle.color.proofs.subtract_green.rebuild_row_at.Goals as goal
+
+-- the row is inside the picture
+there : (s : tie.Start) → s.args.y * s.args.width + s.args.width ≤ s.args.height * s.args.width
+there s = row_there s.args.width s.args.height s.args.y (omega arith)
+
+pub overflow_mul-a : goal.overflow_mul-a
+overflow_mul-a c = omega (arith, there c)
+
+pub overflow_mul-a-2 : goal.overflow_mul-a-2
+overflow_mul-a-2 c = omega (arith, there c)
+
+pub overflow_add-b : goal.overflow_add-b
+overflow_add-b c = omega (arith, there c)
+
+pub slice_bounds-rebuild_row-end : goal.slice_bounds-rebuild_row-end
+slice_bounds-rebuild_row-end c = omega (arith, there c)
+
+pub returns : goal.returns
+returns c = lent _ _ c.args.y c.args.width _ _ c.rebuild_row.ensures (λ i l v. refl) (omega (arith, there c))

@@ -1,0 +1,23 @@
+-- `unadjust` meets its contract: before each turn the bytes from i on are unadjusted, and those before i are the first
+-- ones.
+use Rattle.std.proofs.Common.{◌≡◌, ◌-◌, ◌≤◌, length, refl, arith, length-set, rules}
+use Rattle.format.specs.Picture.{byte_at}
+use Rattle.format.specs.ColorMap.{unadjusted}
+use Rattle.pixel.specs.Cells.{byte_cells, run}
+use Rattle.pixel.proofs.Cells.{run_none}
+use Rattle.color_map.proofs.Laws.{unadjusted_more, unadjusted_run}
+use Rattle.color_map.proofs.unadjust.Goals as goal
+
+pub loop-i-init : goal.loop-i-init
+loop-i-init c = (omega arith, omega arith, refl, run_none _ _ _ _)
+
+pub loop-i-preserved : goal.loop-i-preserved
+loop-i-preserved c =
+    let l = c.loop-i in
+    (omega arith, omega arith, simp length-set l.invariant.2, unadjusted_more c.args.color-map.now _ _ _ l.invariant.3 c.byte_less.ensures (omega arith) (omega arith))
+
+pub returns : goal.returns
+returns c =
+    let l = c.loop-i in
+    let e : l.i ≡ 4 = omega arith in
+    unadjusted_run c.args.color-map.now _ (rw e at l.invariant.3)

@@ -1,0 +1,23 @@
+-- `unadjust_color_map` meets its contract: the code's test is the definition's refusal, which settles both equations.
+use Rattle.std.proofs.Common.{sym, refl, ◌∙◌, rules}
+use Rattle.format.specs.ColorMap.{color_map_answer, unadjust_color_map}
+use Rattle.format.proofs.ColorMap.{taken_long}
+use Rattle.color_map.proofs.unadjust_color_map.Goals as goal
+
+pub refused_length-requires : goal.refused_length-requires
+unfolding color_map_answer unadjust_color_map
+refused_length-requires c = search rules
+
+pub returns-then-refused_length : goal.returns-then-refused_length
+unfolding color_map_answer unadjust_color_map
+returns-then-refused_length c = rw (sym c.refused_length.ensures ∙ c.if-refused_length.true) (refl, refl)
+
+pub unadjust-requires : goal.unadjust-requires
+unfolding color_map_answer unadjust_color_map
+unadjust-requires c = (taken_long _ (sym c.refused_length.ensures ∙ c.if-refused_length.false)).0
+
+pub returns : goal.returns
+unfolding color_map_answer unadjust_color_map
+returns c =
+    rw (sym c.refused_length.ensures ∙ c.if-refused_length.false)
+    (refl, c.unadjust.ensures)

@@ -1,0 +1,18 @@
+-- `accept_groups` meets its contract: before each turn the pixels before i, and a, have an entry.
+use mathlib.Core.Bool.{true}
+use mathlib.Core.Path.{◌≡◌, sym, ◌∙◌}
+use Prim.Native.Nat.{◌≤◌, ◌+◌, ◌-◌, ◌%◌}
+use native.Mathlib.Omega.{arith}
+use borrow.Author.Tests.{not-true, not-false}
+use Rattle.format.specs.Picture.{pixels}
+use Rattle.format.specs.ColorTable.{has_entry, have_entries}
+use Rattle.pixel.specs.Word.{unword}
+use Rattle.color_table.proofs.Index.{entry_accepted, taken_entry, accepted_front, accepted_fewer, accepted_done}
+use Rattle.color_table.proofs.accept.accept_groups.Given as goal
+
+abbrev pub invariant-loop-i : goal.invariant-loop-i
+invariant-loop-i l =
+    (l.i % 16 ≡ 0) × (l.i ≤ l.count) × (have_entries l.size (pixels l.entries) l.i (pixels l.row) ≡ true) × (has_entry l.size (pixels l.entries) (unword l.a) ≡ true)
+
+abbrev pub decreases-loop-i : goal.decreases-loop-i
+decreases-loop-i l = l.count - l.i

@@ -1,0 +1,15 @@
+-- `hints_of` meets its contract: before each turn the entries from i on are linked.
+use mathlib.Core.Path.{◌≡◌, ap, ◌∙◌}
+use Prim.Native.Nat.{◌≤◌, ◌-◌}
+use native.Mathlib.Omega.{arith}
+use borrow.Author.Rules.{rules}
+use Rattle.format.specs.Picture.{pixels}
+use Rattle.color_table.specs.Hints.{slot_of, Linked}
+use Rattle.color_table.proofs.Hints.{linked_more}
+use Rattle.color_table.proofs.find.hints_of.Given as goal
+
+abbrev pub invariant-loop-i : goal.invariant-loop-i
+invariant-loop-i l = (l.i ≤ l.size) × Linked l.i l.size (pixels l.entries) l.hints
+
+abbrev pub decreases-loop-i : goal.decreases-loop-i
+decreases-loop-i l = l.i

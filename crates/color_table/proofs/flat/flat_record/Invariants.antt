@@ -1,0 +1,19 @@
+-- `flat_record` meets its contract: before each turn b holds the first k indices.
+use mathlib.Core.Path.{◌≡◌, sym, ap, ◌∙◌}
+use Prim.Native.Nat.{ℕ, ◌≤◌, ◌<◌, ◌-◌, ◌+◌, ◌^◌}
+use native.Mathlib.Nat.{pow-zero}
+use native.Mathlib.Omega.{arith}
+use Rattle.format.specs.Pixel.{pixel}
+use Rattle.format.specs.Picture.{pixels}
+use Rattle.format.specs.ColorTable.{digits}
+use Rattle.color_table.specs.Pack.{row_indices}
+use Rattle.color_table.proofs.Index.{column_below, row_inside}
+use Rattle.color_table.proofs.Digits.{Base, base_of, digits_none, digits_more, weight_more, weight_small, small_more, small_product}
+use Rattle.color_table.proofs.flat.flat_record.Given as goal
+
+abbrev pub invariant-loop-k : goal.invariant-loop-k
+invariant-loop-k l =
+    (l.k ≤ l.n) × (l.b ≡ digits l.range l.k (row_indices l.width l.size (pixels l.entries) (pixels l.row) l.a)) × (l.weight ≡ l.range ^ l.k) × (l.b < l.weight) × (l.weight ≤ 256) × Base l.size l.n l.range
+
+abbrev pub decreases-loop-k : goal.decreases-loop-k
+decreases-loop-k l = l.n - l.k

@@ -1,0 +1,31 @@
+-- `pack_bits` meets its contract: before each turn the first j records are there.
+use mathlib.Core.Path.{◌≡◌, refl, ◌∙◌}
+use Prim.Native.Nat.{◌≤◌, ◌-◌, ◌*◌, ◌/◌, ◌%◌}
+use native.Mathlib.Omega.{arith}
+use borrow.Author.Rules.{rules}
+use lib.ListN.{length}
+use Rattle.format.specs.Picture.{pixels}
+use Rattle.format.specs.ColorTable.{packed_width, packed}
+use Rattle.pixel.specs.Cells.{pixel_cells, run, given}
+use Rattle.pixel.proofs.Given.{given_none}
+use Rattle.pixel.proofs.Rows.{run_then}
+use Rattle.color_table.proofs.flat.pack_bits.Goals as goal
+
+-- these records are inside the row
+inside : (s : tie.Start invariant-loop decreases-loop) → s.args.width / 32 * 4 ≤ packed_width s.args.size s.args.width
+inside s = rw (← s.requires.1.0.places) (omega arith)
+
+pub loop-j-init : goal.loop-j-init
+loop-j-init c = (omega arith, omega arith, refl, given_none _ _ _)
+
+pub put_bits-requires : goal.put_bits-requires
+put_bits-requires c = let i = inside c in (c.requires.few, (c.requires.row, (omega arith, omega arith)))
+
+pub loop-j-preserved : goal.loop-j-preserved
+loop-j-preserved c =
+    let l = c.loop-j in
+    let p = c.put_bits in
+    (omega arith, omega arith, p.auto.1.1.0 ∙ l.invariant.2, run_then _ _ _ _ _ _ _ l.invariant.3 p.ensures refl)
+
+pub returns : goal.returns
+returns c = let i = inside c in (omega arith, c.loop-j.invariant.3)

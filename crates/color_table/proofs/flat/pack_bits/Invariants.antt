@@ -1,0 +1,19 @@
+-- `pack_bits` meets its contract: before each turn the first j records are there.
+use mathlib.Core.Path.{◌≡◌, refl, ◌∙◌}
+use Prim.Native.Nat.{◌≤◌, ◌-◌, ◌*◌, ◌/◌, ◌%◌}
+use native.Mathlib.Omega.{arith}
+use borrow.Author.Rules.{rules}
+use lib.ListN.{length}
+use Rattle.format.specs.Picture.{pixels}
+use Rattle.format.specs.ColorTable.{packed_width, packed}
+use Rattle.pixel.specs.Cells.{pixel_cells, run, given}
+use Rattle.pixel.proofs.Given.{given_none}
+use Rattle.pixel.proofs.Rows.{run_then}
+use Rattle.color_table.proofs.flat.pack_bits.Given as goal
+
+abbrev pub invariant-loop-j : goal.invariant-loop-j
+invariant-loop-j l =
+    (l.j % 4 ≡ 0) × (l.j ≤ l.to) × (length l.out ≡ length l.initial.out) × (l.out ≡ run pixel_cells (given (packed l.width l.size (pixels l.entries) (pixels l.row))) 0 l.j l.initial.out)
+
+abbrev pub decreases-loop-j : goal.decreases-loop-j
+decreases-loop-j l = l.to - l.j

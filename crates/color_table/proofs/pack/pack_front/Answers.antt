@@ -1,0 +1,10 @@
+-- `pack_front` meets its contract: both ways do.
+use borrow.Author.Rules.{rules}
+use Rattle.color_table.proofs.Digits.{row_at, pair_of}
+use Rattle.color_table.proofs.pack.pack_front.Goals as goal
+
+pub pack_bits-requires : goal.pack_bits-requires
+pack_bits-requires c =
+    let q = c.if-p-eq8.true in
+    let row = row_at 8 _ _ _ _ _ _ q c.requires.packs.row in
+    (pair_of _ _ row.places c.requires.packs.table.most c.requires.packs.table.some c.requires.packs.table.there, (row, c.requires.width_in_bounds))

@@ -1,0 +1,18 @@
+-- `padded` meets its contract: before each turn the rows before i are entries, and those from i on are clear.
+use mathlib.Core.Path.{◌≡◌}
+use Prim.Native.Nat.{ℕ, ◌≤◌, ◌<◌, ◌-◌}
+use native.Mathlib.Omega.{arith}
+use borrow.Author.Rules.{rules}
+use lib.ListN.{length, length-set}
+use Rattle.format.specs.Pixel.{clear}
+use Rattle.format.specs.Picture.{pixels}
+use Rattle.color_table.specs.Table.{entry_in}
+use Rattle.color_table.proofs.Entries.{entries_more, clear_more, padded_whole}
+use Rattle.color_table.proofs.table.padded.Given as goal
+
+abbrev pub invariant-loop-i : goal.invariant-loop-i
+invariant-loop-i l =
+    (l.i ≤ l.size) × (length l.table ≡ 256) × ((j : ℕ) → j < l.i → entry_in l.table j ≡ pixels l.entries j) × ((j : ℕ) → l.i ≤ j → entry_in l.table j ≡ clear)
+
+abbrev pub decreases-loop-i : goal.decreases-loop-i
+decreases-loop-i l = l.size - l.i

@@ -1,0 +1,15 @@
+-- `packed_byte` meets its contract: byte 1 of the pixel is a byte.
+use mathlib.Core.Path.{refl}
+use Prim.Native.Nat.{◌+◌, ◌*◌}
+use native.Mathlib.Omega.{arith}
+use borrow.Author.Rules.{rules}
+use Rattle.format.specs.Picture.{pixels}
+use Rattle.color_table.proofs.unpack.packed_byte.Goals as goal
+
+pub overflow_cast-result : goal.overflow_cast-result
+unfolding pixels
+overflow_cast-result c = omega (arith, c.shared_slice_known-1.given (4 * c.args.k + 1))
+
+pub returns : goal.returns
+unfolding pixels
+returns c = (refl, omega (arith, c.shared_slice_known-1.given (4 * c.args.k + 1)))

@@ -1,0 +1,6 @@
+-- `unpack_four` meets its contract: either way does.
+use borrow.Author.Rules.{rules}
+use Rattle.color_table.proofs.unpack.unpack_four.Goals as goal
+
+pub returns-then-n-eq1 : goal.returns-then-n-eq1
+returns-then-n-eq1 c = λ e. rw c.if-n-eq1.true (c.look_up_four.ensures e)

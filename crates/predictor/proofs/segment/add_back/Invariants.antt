@@ -1,0 +1,13 @@
+-- `add_back` meets its contract: before each turn the bytes up to i are rebuilt.
+use Rattle.std.proofs.Common.{◌≡◌, ◌-◌, ◌≤◌, length, refl, arith, length-set, rules}
+use Rattle.pixel.specs.Cells.{byte_cells, run}
+use Rattle.pixel.proofs.Cells.{run_none, run_more, run_done}
+use Rattle.predictor.specs.Bytewise.{first, bytewise}
+use Rattle.predictor.proofs.segment.add_back.Given as goal
+
+abbrev pub invariant-loop-i : goal.invariant-loop-i
+invariant-loop-i l =
+    (l.from ≤ l.i) × (l.i ≤ l.to) × (length l.rows ≡ length l.initial.rows) × (l.rows ≡ run byte_cells (bytewise first l.back l.back) l.from (l.i - l.from) l.initial.rows)
+
+abbrev pub decreases-loop-i : goal.decreases-loop-i
+decreases-loop-i l = l.to - l.i

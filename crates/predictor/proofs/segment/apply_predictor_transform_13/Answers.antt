@@ -1,0 +1,20 @@
+-- `apply_predictor_transform_13` meets its contract: before each turn the pixels up to i are rebuilt, and `left` is the
+-- last of them.
+use Rattle.std.proofs.Common.{◌-◌, refl, arith, rules}
+use Rattle.pixel.proofs.Cells.{run_none, run_done}
+use Rattle.predictor.specs.Row.{around}
+use Rattle.predictor.proofs.Turn.{Carried, carried_next}
+use Rattle.predictor.proofs.segment.apply_predictor_transform_13.Goals as goal
+
+pub loop-i-init : goal.loop-i-init
+loop-i-init c = (omega arith, omega arith, refl, run_none _ _ _ _, c.pixel_at-left.ensures)
+
+pub gain_13-left-requires : goal.gain_13-left-requires
+gain_13-left-requires c = (omega arith, c.loop-i.invariant.4)
+
+pub loop-i-preserved : goal.loop-i-preserved
+loop-i-preserved c =
+    carried_next _ _ _ _ _ _ _ _ _ c.loop-i.invariant c.gain_13-left.ensures c.put_pixel.ensures c.put_pixel.auto.xs (omega arith) (omega arith)
+
+pub returns : goal.returns
+returns c = run_done _ _ _ _ _ _ _ (omega arith) (omega arith) c.loop-i.invariant.3

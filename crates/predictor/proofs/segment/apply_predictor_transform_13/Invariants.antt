@@ -1,0 +1,13 @@
+-- `apply_predictor_transform_13` meets its contract: before each turn the pixels up to i are rebuilt, and `left` is the
+-- last of them.
+use Rattle.std.proofs.Common.{◌-◌, refl, arith, rules}
+use Rattle.pixel.proofs.Cells.{run_none, run_done}
+use Rattle.predictor.specs.Row.{around}
+use Rattle.predictor.proofs.Turn.{Carried, carried_next}
+use Rattle.predictor.proofs.segment.apply_predictor_transform_13.Given as goal
+
+abbrev pub invariant-loop-i : goal.invariant-loop-i
+invariant-loop-i l = Carried (around 13 l.w) l.from l.to l.initial.rows l.rows l.left l.i
+
+abbrev pub decreases-loop-i : goal.decreases-loop-i
+decreases-loop-i l = l.to - l.i

@@ -14,10 +14,10 @@ loop-i-init c = (omega arith, omega arith, refl, run_none _ _ _ _)
 pub loop-i-preserved : goal.loop-i-preserved
 loop-i-preserved c =
     let l = c.loop-i in
-    (omega arith, omega arith, simp length-set l.invariant.2, unadjusted_more c.args.color-map.now _ _ _ l.invariant.3 c.byte_less.ensures (omega arith) (omega arith))
+    (omega arith, omega arith, simp length-set l.invariant.2, unadjusted_more c.args.color_map.now _ _ _ l.invariant.3 c.byte_less.ensures (omega arith) (omega arith))
 
 pub returns : goal.returns
 returns c =
     let l = c.loop-i in
     let e : l.i ≡ 4 = omega arith in
-    unadjusted_run c.args.color-map.now _ (rw e at l.invariant.3)
+    unadjusted_run c.args.color_map.now _ (rw e at l.invariant.3)

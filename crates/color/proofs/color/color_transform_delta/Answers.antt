@@ -3,8 +3,8 @@ use Rattle.std.proofs.Common.{◌+◌, ◌*◌, ◌%◌, ◌≤◌, arith, rules
 use Rattle.color.proofs.Delta.{delta-by, product}
 use Rattle.color.proofs.color.color_transform_delta.Goals as goal
 
-fits : (c : tie.After-wide) → c.before.args.m * ((c.wide.result + 128) % 256) ≤ 2088705
-fits c = product c.before.args.m ((c.wide.result + 128) % 256) (omega arith) (omega arith)
+fits : (c : goal.After-wide) → c.args.m * ((c.wide.result + 128) % 256) ≤ 2088705
+fits c = product c.args.m ((c.wide.result + 128) % 256) (omega arith) (omega arith)
 
 pub overflow_mul-result : goal.overflow_mul-result
 overflow_mul-result c = omega (arith, fits c)

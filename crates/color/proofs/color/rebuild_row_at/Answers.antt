@@ -7,13 +7,13 @@ use Rattle.color.proofs.Pointwise.{lent}
 use Rattle.color.proofs.color.rebuild_row_at.Goals as goal
 
 -- the row is inside the picture
-there : (s : tie.Start) → s.args.y * s.args.width + s.args.width ≤ s.args.height * s.args.width
+there : (s : goal.Start) → s.args.y * s.args.width + s.args.width ≤ s.args.height * s.args.width
 there s = row_there s.args.width s.args.height s.args.y (omega arith)
 
 -- and so are the data of its row of blocks
-bx : (c : tie.After-subsample-size)
-    → 4 * (c.before.before.before.args.y / 2 ^ c.before.before.before.args.bits * c.subsample-size.result) + 4 * c.subsample-size.result ≤ length c.before.before.before.args.blocks.now
-bx c = let p = c.before.before.before.requires in data_there _ _ _ _ _ p.0.1 p.0.2 _ c.subsample-size.ensures
+bx : (c : goal.After-subsample_size-bx)
+    → 4 * (c.args.y / 2 ^ c.args.bits * c.subsample_size-bx.result) + 4 * c.subsample_size-bx.result ≤ length c.args.blocks.now
+bx c = let p = c.requires in data_there _ _ _ _ _ p.0.1 p.0.2 _ c.subsample_size-bx.ensures
 
 pub overflow_mul-a : goal.overflow_mul-a
 overflow_mul-a c = omega (arith, there c)

@@ -32,10 +32,10 @@ pub returns : goal.returns
 unfolding transform_color
 returns c =
     λ e f. rw (
-      sub_wrapped _ _ _ c.wrapping_sub_u8.ensures (omega arith),
+      sub_wrapped _ _ _ c.wrapping_sub_u8.ensures.value (omega arith),
       c.color_transform_delta-3.ensures e.red f.red-to-blue,
-      sub_wrapped _ _ _ c.wrapping_sub_u8-blue.ensures (omega arith),
+      sub_wrapped _ _ _ c.wrapping_sub_u8-blue.ensures.value (omega arith),
       c.color_transform_delta-2.ensures e.green f.green-to-blue,
-      sub_wrapped _ _ _ c.wrapping_sub_u8-red.ensures (omega arith),
+      sub_wrapped _ _ _ c.wrapping_sub_u8-red.ensures.value (omega arith),
       c.color_transform_delta.ensures e.blue f.green-to-red,
     )

@@ -9,9 +9,9 @@ use Rattle.color.proofs.Pointwise.{held}
 use Rattle.color.proofs.color.store_row.Goals as goal
 
 -- the data of the row's blocks
-bx : (c : tie.After-subsample-size)
-    → 4 * (c.before.before.before.args.y / 2 ^ c.before.before.before.args.bits * c.subsample-size.result) + 4 * c.subsample-size.result ≤ length c.before.before.before.args.blocks.now
-bx c = let p = c.before.before.before.requires in data_there _ _ _ _ _ p.0.1 p.0.2 _ c.subsample-size.ensures
+bx : (c : goal.After-subsample_size-bx)
+    → 4 * (c.args.y / 2 ^ c.args.bits * c.subsample_size-bx.result) + 4 * c.subsample_size-bx.result ≤ length c.args.blocks.now
+bx c = let p = c.requires in data_there _ _ _ _ _ p.0.1 p.0.2 _ c.subsample_size-bx.ensures
 
 pub subsample_size-bx-requires : goal.subsample_size-bx-requires
 unfolding color_stored

@@ -14,7 +14,7 @@ loop-i-preserved c =
     let p = c.write_pixel in (
       omega arith,
       omega arith,
-      p.auto.0 ∙ l.2,
+      p.auto.xs ∙ l.2,
       made_turn _ _ _ _ _ _ _ _ _ _ _ l.3 c.read_pixel.ensures c.store_pixel-v.ensures p.ensures l.0,
     )
 

@@ -3,4 +3,4 @@ use Rattle.std.proofs.Common.{rules}
 use Rattle.color.proofs.subtract_green.rebuild_pixel.Goals as goal
 
 pub returns : goal.returns
-returns c = rw (c.wrapping_add_u8-2.ensures, c.wrapping_add_u8.ensures)
+returns c = rw (c.wrapping_add_u8-2.ensures.value, c.wrapping_add_u8.ensures.value)

@@ -13,7 +13,7 @@ pub loop-x-preserved : goal.loop-x-preserved
 loop-x-preserved c =
     let l = c.loop-x.invariant in
     let p = c.write_pixel in (
-      p.auto.0 ∙ l.0,
+      p.auto.xs ∙ l.0,
       within_turn _ _ _ _ _ _ _ _ l.1 c.read_pixel.ensures c.rebuild_pixel-v.ensures p.ensures (omega arith),
     )
 

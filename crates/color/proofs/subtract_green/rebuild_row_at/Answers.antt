@@ -5,7 +5,7 @@ use Rattle.color.proofs.Pointwise.{lent}
 use Rattle.color.proofs.subtract_green.rebuild_row_at.Goals as goal
 
 -- the row is inside the picture
-there : (s : tie.Start) → s.args.y * s.args.width + s.args.width ≤ s.args.height * s.args.width
+there : (s : goal.Start) → s.args.y * s.args.width + s.args.width ≤ s.args.height * s.args.width
 there s = row_there s.args.width s.args.height s.args.y (omega arith)
 
 pub overflow_mul-a : goal.overflow_mul-a

@@ -30,7 +30,7 @@ loop-i-preserved c =
     let l = c.loop-i.invariant in
     let p = c.write_pixel in (
       omega arith,
-      p.auto.0 ∙ l.1,
+      p.auto.xs ∙ l.1,
       turn _ _ _ _ _ _ _ _ l.2 c.read_pixel.ensures c.store_pixel-v.ensures p.ensures (omega arith),
     )
 

@@ -19,4 +19,5 @@ returns-then-known-eight_of c =
     sym (accepted_each _ _ _ _ _ c.args.i 16 b x.0 x.1 (known_entry _ _ u v _ _ c.first_holds.ensures c.same.ensures x.1 (and_left k _ c.if-known-eight_of.true)))
 
 pub accept_each-requires : goal.accept_each-requires
-accept_each-requires c = (c.requires.table, ((omega arith, omega arith), c.requires.row_value.0))
+accept_each-requires c =
+    record { table = c.requires.table; from_le_to = (omega arith, omega arith); row_value = c.requires.row_value.0 }

@@ -18,7 +18,8 @@ loop-i-init c =
     (p.0, p.2, accepted_front _ _ _ _ _ c.pass-i.result p.3 a b, a)
 
 pub accept_group-requires : goal.accept_group-requires
-accept_group-requires c = let l = c.loop-i in (c.requires.table, (omega arith, (l.invariant.2, l.invariant.3)))
+accept_group-requires c =
+    let l = c.loop-i in record { table = c.requires.table; i_in_bounds = omega arith; row_value = (l.invariant.2, l.invariant.3) }
 
 pub returns-then-not-accept_group : goal.returns-then-not-accept_group
 returns-then-not-accept_group c =

@@ -70,7 +70,7 @@ loop-j-preserved c =
     let l = c.loop-j in
     let p = c.put_word in
     let v = double_record _ _ _ _ _ l.j _ _ _ _ _ c.record_of.ensures refl c.word_at.ensures c.word_at-in-loop-j.ensures c.find-low.ensures c.find-high.ensures c.requires.row.places (omega arith) in
-    (omega arith, omega arith, p.auto.0 ∙ l.invariant.2, given_turn _ _ _ _ _ _ _ l.invariant.3 v p.ensures l.invariant.0)
+    (omega arith, omega arith, p.auto.xs ∙ l.invariant.2, given_turn _ _ _ _ _ _ _ l.invariant.3 v p.ensures l.invariant.0)
 
 pub returns : goal.returns
 returns c = run_done _ _ _ _ _ _ _ (omega arith) (omega arith) c.loop-j.invariant.3

@@ -21,7 +21,7 @@ overflow_mul-j c =
 
 pub pack_record-requires : goal.pack_record-requires
 pack_record-requires c =
-    (c.requires.packs, record_first c.args.p.width _ _ c.loop-j.j c.requires.packs.row.places (omega arith))
+    record { packs = c.requires.packs; a_lt_width = record_first c.args.p.width _ _ c.loop-j.j c.requires.packs.row.places (omega arith) }
 
 pub loop-j-preserved : goal.loop-j-preserved
 loop-j-preserved c =
@@ -29,7 +29,7 @@ loop-j-preserved c =
     let row = c.requires.packs.row in
     let p = c.put_word in
     let v = record_row _ _ _ _ _ _ l.j _ c.pack_record.ensures row.places row.base (omega arith) in
-    (omega arith, omega arith, p.auto.0 ∙ l.invariant.2, given_turn _ _ _ _ _ _ _ l.invariant.3 v p.ensures l.invariant.0)
+    (omega arith, omega arith, p.auto.xs ∙ l.invariant.2, given_turn _ _ _ _ _ _ _ l.invariant.3 v p.ensures l.invariant.0)
 
 pub returns : goal.returns
 returns c = run_done _ _ _ _ _ _ _ (omega arith) (omega arith) c.loop-j.invariant.3

@@ -21,7 +21,7 @@ index_at-index-requires c =
     let l = c.loop-k in
     let n = c.requires.packs.row.narrow in
     let few = l.invariant.5.few in
-    (c.requires.packs, (omega arith, l.invariant.6))
+    record { packs = c.requires.packs; k_bound = (omega arith, l.invariant.6) }
 
 pub overflow_mul-b : goal.overflow_mul-b
 overflow_mul-b c =

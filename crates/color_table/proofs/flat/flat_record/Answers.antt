@@ -33,7 +33,7 @@ flat_index-requires c =
     let few = c.requires.few in
     let t = c.loop-k.invariant.5.two in
     let u : c.args.range - 1 + 1 ≡ c.args.range = omega arith in
-    (rw u few, column_below _ _ _ c.args.width (c.args.a + c.loop-k.k) _ c.requires.row.taken c.word_at.ensures (omega arith))
+    record { few = rw u few; w_bound = column_below _ _ _ c.args.width (c.args.a + c.loop-k.k) _ c.requires.row.taken c.word_at.ensures (omega arith) }
 
 pub overflow_mul-b : goal.overflow_mul-b
 overflow_mul-b c =

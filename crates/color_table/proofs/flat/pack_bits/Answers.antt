@@ -19,13 +19,14 @@ pub loop-j-init : goal.loop-j-init
 loop-j-init c = (omega arith, omega arith, refl, given_none _ _ _)
 
 pub put_bits-requires : goal.put_bits-requires
-put_bits-requires c = let i = inside c in (c.requires.few, (c.requires.row, (omega arith, omega arith)))
+put_bits-requires c =
+    let i = inside c in record { few = c.requires.few; row = c.requires.row; j_bound = (omega arith, omega arith) }
 
 pub loop-j-preserved : goal.loop-j-preserved
 loop-j-preserved c =
     let l = c.loop-j in
     let p = c.put_bits in
-    (omega arith, omega arith, p.auto.1.1.0 ∙ l.invariant.2, run_then _ _ _ _ _ _ _ l.invariant.3 p.ensures refl)
+    (omega arith, omega arith, p.auto.out ∙ l.invariant.2, run_then _ _ _ _ _ _ _ l.invariant.3 p.ensures refl)
 
 pub returns : goal.returns
 returns c = let i = inside c in (omega arith, c.loop-j.invariant.3)

@@ -5,16 +5,16 @@ use Rattle.color_table.proofs.Records.{four_records}
 use Rattle.color_table.proofs.flat.put_pairs.Goals as goal
 
 pub flat_record-requires : goal.flat_record-requires
-flat_record-requires c = (c.requires.few, (c.requires.row, omega arith))
+flat_record-requires c = record { few = c.requires.few; row = c.requires.row; n_bound = omega arith }
 
 pub flat_record-requires-2 : goal.flat_record-requires-2
-flat_record-requires-2 c = (c.requires.few, (c.requires.row, omega arith))
+flat_record-requires-2 c = record { few = c.requires.few; row = c.requires.row; n_bound = omega arith }
 
 pub flat_record-requires-3 : goal.flat_record-requires-3
-flat_record-requires-3 c = (c.requires.few, (c.requires.row, omega arith))
+flat_record-requires-3 c = record { few = c.requires.few; row = c.requires.row; n_bound = omega arith }
 
 pub flat_record-requires-4 : goal.flat_record-requires-4
-flat_record-requires-4 c = (c.requires.few, (c.requires.row, omega arith))
+flat_record-requires-4 c = record { few = c.requires.few; row = c.requires.row; n_bound = omega arith }
 
 pub returns : goal.returns
 returns c =

@@ -9,9 +9,9 @@ use Rattle.pixel.proofs.Rows.{run_then}
 use Rattle.color_table.proofs.Digits.{Base, base_in}
 use Rattle.color_table.proofs.pack.pack_by.Goals as goal
 
-module _ (s : tie.Start) where
+module _ (s : goal.Start) where
   base : Base s.args.p.size s.args.p.n s.args.p.range
-  base = base_in _ _ _ _ s.requires.0
+  base = base_in _ _ _ _ s.requires.packs
 
   all : ceiling s.args.p.width s.args.p.n ≡ packed_width s.args.p.size s.args.p.width
   all = rw s.pre.0.row.places
@@ -27,7 +27,7 @@ nonzero_div-to c = let b = base c in omega arith
 
 pub pack_each-requires : goal.pack_each-requires
 pack_each-requires c =
-    let a = all c in let f = c.pack_front-from.ensures.0 in (c.requires.packs, (omega arith, omega arith, omega arith))
+    let a = all c in let f = c.pack_front-from.ensures.0 in record { packs = c.requires.packs; from_le_to = (omega arith, omega arith, omega arith) }
 
 pub returns : goal.returns
 returns c =

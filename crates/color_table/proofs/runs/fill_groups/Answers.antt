@@ -35,7 +35,7 @@ loop-g-preserved c =
     let b = each_both w w (pixels c.args.row.now) (16 * l.g) _ _ c.eight_of.ensures c.eight_of-in-loop-g.ensures (not-false _ c.if-not-eight_of.false) in (
       omega arith,
       omega arith,
-      p.auto.0 ∙ l.invariant.2,
+      p.auto.out ∙ l.invariant.2,
       all_more _ _ _ l.g l.invariant.3 b,
       group_next _ _ _ l.g _ _ _ l.invariant.4 p.ensures l.invariant.0,
     )

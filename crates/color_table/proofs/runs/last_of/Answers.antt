@@ -11,9 +11,9 @@ use Rattle.color_table.proofs.Digits.{Base, base_in}
 use Rattle.color_table.proofs.Records.{uniform_of}
 use Rattle.color_table.proofs.runs.last_of.Goals as goal
 
-module _ (s : tie.Start) where
+module _ (s : goal.Start) where
   base : Base s.args.p.size s.args.p.n s.args.p.range
-  base = base_in _ _ _ _ s.requires.0
+  base = base_in _ _ _ _ s.requires.packs
 
   ones : (v : Pixel) → v ≡ pixels s.args.row.now s.args.x → (i : ℕ) → i ≡ index_of s.args.p.size (pixels s.args.entries.now) v
       → (i * (255 / (s.args.p.range - 1)) < 256) × (i * (255 / (s.args.p.range - 1)) ≡ digits s.args.p.range s.args.p.n (λ k. i))

@@ -7,9 +7,9 @@ use Rattle.color_table.proofs.Digits.{Base, base_in, row_at, few_of}
 use Rattle.color_table.proofs.Records.{groups_inside, group_columns}
 use Rattle.color_table.proofs.runs.pack_group.Goals as goal
 
-module _ (s : tie.Start) where
+module _ (s : goal.Start) where
   base : Base s.args.p.size s.args.p.n s.args.p.range
-  base = base_in _ _ _ _ s.requires.0
+  base = base_in _ _ _ _ s.requires.packs
 
 pub overflow_mul-g : goal.overflow_mul-g
 overflow_mul-g c = let w = c.requires.packs.row.narrow in omega arith
@@ -18,7 +18,7 @@ pub put_pairs-requires : goal.put_pairs-requires
 put_pairs-requires c =
     let q = c.if-p-eq4.true in
     let l = rw q at c.requires.g_bound.1 in
-    (few_of _ _ _ _ q (base c) c.requires.packs.row.base c.requires.packs.table.there, (row_at 4 _ _ _ _ _ _ q c.requires.packs.row, (omega arith, omega arith)))
+    record { few = few_of _ _ _ _ q (base c) c.requires.packs.row.base c.requires.packs.table.there; row = row_at 4 _ _ _ _ _ _ q c.requires.packs.row; j_bound = (omega arith, omega arith) }
 
 pub overflow_mul-j : goal.overflow_mul-j
 overflow_mul-j c = let w = c.requires.packs.row.narrow in omega arith
@@ -30,7 +30,7 @@ pub pack_doubles-requires : goal.pack_doubles-requires
 pack_doubles-requires c =
     let q = c.if-p-eq2.true in
     let l = rw q at c.requires.g_bound.1 in
-    (c.requires.packs.table, (row_at 2 _ _ _ _ _ _ q c.requires.packs.row, (omega arith, omega arith, omega arith)))
+    record { table = c.requires.packs.table; row = row_at 2 _ _ _ _ _ _ q c.requires.packs.row; from_le_to = (omega arith, omega arith, omega arith) }
 
 pub nonzero_div-m : goal.nonzero_div-m
 nonzero_div-m c = let p = (base c).some in omega arith
@@ -46,7 +46,7 @@ pack_each-requires c =
     let b = base c in
     let p = group_columns c.args.g c.args.p.n in
     let i = groups_inside _ _ b.group _ _ (c.args.g + 1) c.requires.packs.row.places b.some c.requires.g_bound.0 in
-    (c.requires.packs, (omega arith, omega arith, omega arith))
+    record { packs = c.requires.packs; from_le_to = (omega arith, omega arith, omega arith) }
 
 pub returns-then-p-eq4 : goal.returns-then-p-eq4
 returns-then-p-eq4 c = rw c.if-p-eq4.true c.put_pairs.ensures

@@ -15,9 +15,9 @@ use Rattle.color_table.proofs.Digits.{Base, base_in}
 use Rattle.color_table.proofs.Records.{groups_whole, record_again, group_next}
 use Rattle.color_table.proofs.runs.pack_run.Goals as goal
 
-module _ (s : tie.Start) where
+module _ (s : goal.Start) where
   base : Base s.args.p.size s.args.p.n s.args.p.range
-  base = base_in _ _ _ _ s.requires.0
+  base = base_in _ _ _ _ s.requires.packs
 
   -- what was filled is the row's records
   filled : (r : ℕ) (xs ys : List ℕ) → Filled s.args.p.n s.args.last.groups r s.args.groups (unword s.args.last.word) (unword s.args.last.packed) (pixels s.args.row.now) xs ys
@@ -35,16 +35,17 @@ module _ (s : tie.Start) where
 
 pub fill_run-g-requires : goal.fill_run-g-requires
 fill_run-g-requires c =
-    let t = c.requires.packs.row.there in ((base c).places, (omega arith, omega arith, c.requires.groups_lt_groups.2))
+    let t = c.requires.packs.row.there in record { places = (base c).places; groups_le_groups = (omega arith, omega arith, c.requires.groups_lt_groups.2) }
 
 pub returns-then-groups-g : goal.returns-then-groups-g
 returns-then-groups-g c = let f = c.fill_run-g.ensures in (omega arith, f.to, c.requires.last_of, filled c _ _ _ f)
 
 pub pack_group-requires : goal.pack_group-requires
-pack_group-requires c = let r = turn c c.fill_run-g.result (omega arith) in (c.requires.packs, (omega arith, omega arith))
+pack_group-requires c =
+    let r = turn c c.fill_run-g.result (omega arith) in record { packs = c.requires.packs; g_bound = (omega arith, omega arith) }
 
 pub last_of-requires : goal.last_of-requires
-last_of-requires c = (c.requires.packs, omega arith)
+last_of-requires c = record { packs = c.requires.packs; x_lt_width = omega arith }
 
 pub returns : goal.returns
 returns c =

@@ -28,14 +28,14 @@ module _ (s : tie.Start invariant-loop decreases-loop) where
       omega arith
 
 pub last_of-last-requires : goal.last_of-last-requires
-last_of-last-requires c = (c.requires.packs, c.requires.packs.row.wide)
+last_of-last-requires c = record { packs = c.requires.packs; x_lt_width = c.requires.packs.row.wide }
 
 pub loop-last-init : goal.loop-last-init
 loop-last-init c = let e = c.last_of-last.ensures in (omega arith, refl, e.1, rw e.0 (no_rows _ _ _))
 
 pub pack_run-last-requires : goal.pack_run-last-requires
 pack_run-last-requires c =
-    let i = inside c in let l = c.loop-last in (c.requires.packs, ((omega arith, omega arith, omega arith), l.invariant.2))
+    let i = inside c in let l = c.loop-last in record { packs = c.requires.packs; groups_lt_groups = (omega arith, omega arith, omega arith); last_of = l.invariant.2 }
 
 pub loop-last-smaller : goal.loop-last-smaller
 loop-last-smaller c = let p = c.pack_run-last.ensures in omega arith
@@ -45,7 +45,7 @@ loop-last-preserved c =
     let l = c.loop-last in
     let p = c.pack_run-last in
     let e = p.ensures in
-    (e.1, p.auto.1.0 ∙ l.invariant.1, e.2, groups_then _ _ _ _ _ _ _ l.invariant.3 e.3 (omega arith))
+    (e.1, p.auto.out ∙ l.invariant.1, e.2, groups_then _ _ _ _ _ _ _ l.invariant.3 e.3 (omega arith))
 
 pub nonzero_div-result : goal.nonzero_div-result
 nonzero_div-result c = let b = base c in omega arith

@@ -23,7 +23,7 @@ pub loop-i-preserved : goal.loop-i-preserved
 loop-i-preserved c =
     let l = c.loop-i in
     let p = c.put_pixel in
-    (omega arith, l.invariant.1, p.auto.0 ∙ l.invariant.2, given_next _ _ _ _ _ _ l.invariant.3 (column-in _ _ _ _ _ c.entry_at.ensures c.index_in-index.ensures) p.ensures)
+    (omega arith, l.invariant.1, p.auto.xs ∙ l.invariant.2, given_next _ _ _ _ _ _ l.invariant.3 (column-in _ _ _ _ _ c.entry_at.ensures c.index_in-index.ensures) p.ensures)
 
 pub returns : goal.returns
 returns c = columns_whole _ _ _ _ _ c.loop-i.invariant.3 (omega arith) c.requires.0 c.loop-i.invariant.1

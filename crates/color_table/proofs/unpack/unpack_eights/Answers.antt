@@ -15,7 +15,7 @@ pub loop-k-preserved : goal.loop-k-preserved
 loop-k-preserved c =
     let l = c.loop-k in
     let p = c.unpack_eight in
-    (omega arith, p.auto.0 ∙ l.invariant.1, columns_before _ _ _ _ _ _ _ _ _ _ _ l.invariant.2 p.ensures (omega arith) (omega arith))
+    (omega arith, p.auto.part ∙ l.invariant.1, columns_before _ _ _ _ _ _ _ _ _ _ _ l.invariant.2 p.ensures (omega arith) (omega arith))
 
 pub returns : goal.returns
 returns c = columns_done _ _ _ _ _ _ _ _ _ c.loop-k.invariant.2 (omega arith) (omega arith)

@@ -18,7 +18,7 @@ pub loop-q-preserved : goal.loop-q-preserved
 loop-q-preserved c =
     let l = c.loop-q in
     let p = c.unpack_four in
-    (omega arith, p.auto.0 ∙ l.invariant.1, columns_before _ _ _ _ _ _ _ _ _ _ _ l.invariant.2 p.ensures (omega arith) (omega arith))
+    (omega arith, p.auto.part ∙ l.invariant.1, columns_before _ _ _ _ _ _ _ _ _ _ _ l.invariant.2 p.ensures (omega arith) (omega arith))
 
 pub returns : goal.returns
 returns c = columns_done _ _ _ _ _ _ _ _ _ c.loop-q.invariant.2 (omega arith) (omega arith)

@@ -20,7 +20,7 @@ loop-x-preserved c =
     let p = c.put_word in (
       omega arith,
       omega arith,
-      p.auto.0 ∙ l.invariant.2,
+      p.auto.xs ∙ l.invariant.2,
       columns_before _ _ _ _ _ _ _ _ _ _ _ l.invariant.3
           (λ e h. given_one _ _ _ _ _ (c.column_at.ensures e c.args.first h) p.ensures) (omega arith) (omega arith),
     )

@@ -12,7 +12,7 @@ use Rattle.color_table.proofs.Rows.{rows_fewer, row_lent}
 use Rattle.color_table.proofs.unpack.unpack_row_at.Goals as goal
 
 -- packed rows are no longer than expanded ones
-fewer : (s : tie.Start) → s.args.y * s.args.packed.0 ≤ s.args.y * s.args.expanded.0
+fewer : (s : goal.Start) → s.args.y * s.args.packed.0 ≤ s.args.y * s.args.expanded.0
 fewer s = rw s.requires.1 (rows_fewer s.args.expanded.0 s.args.size s.args.y s.requires.0)
 
 part_bytes : (a b w : ℕ) (xs : List ℕ) → a ≤ b → 4 * (b + w) ≤ length xs → length (take (4 * (b + w) - 4 * a) (drop (4 * a) xs)) ≡ 4 * (b + w) - 4 * a

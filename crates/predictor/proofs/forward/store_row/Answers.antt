@@ -7,9 +7,9 @@ use Rattle.pixel.proofs.Part.{pixels_part}
 use Rattle.predictor.proofs.StoredRows.{stored_row}
 use Rattle.predictor.proofs.forward.store_row.Goals as goal
 
-blocks : (c : tie.After-subsample-size)
-    → 4 * (c.before.before.before.before.before.args.y / 2 ^ c.before.before.before.before.before.args.bits * c.subsample-size.result) + 4 * c.subsample-size.result ≤ length c.before.before.before.before.before.args.blocks.now
-blocks c = let p = c.before.before.before.before.before.requires in data_there _ _ _ _ _ p.0.1 p.0.2 _ c.subsample-size.ensures
+blocks : (c : goal.After-subsample_size-bx)
+    → 4 * (c.args.y / 2 ^ c.args.bits * c.subsample_size-bx.result) + 4 * c.subsample_size-bx.result ≤ length c.args.blocks.now
+blocks c = let p = c.requires in data_there _ _ _ _ _ p.0.1 p.0.2 _ c.subsample_size-bx.ensures
 
 pub overflow_mul-from : goal.overflow_mul-from
 overflow_mul-from c = omega (arith, blocks c)
@@ -38,4 +38,4 @@ returns-else-y-eq0 c =
     let p = c.requires in
     let e = c.subsample_size-bx.ensures in
     let off : 1 ≤ a.y = omega arith in
-    stored_row a.width a.bits a.y _ _ f a.rows.now off (data-part _ _ _ _ _ p.0.1 p.0.2 _ e) (above off) row _ _ c.store_row.ensures (omega arith)
+    stored_row a.width a.bits a.y _ _ f a.rows.now off (data-part _ _ _ _ _ p.sized.1 p.sized.2 _ e) (above off) row _ _ c.store_row.ensures (omega arith)

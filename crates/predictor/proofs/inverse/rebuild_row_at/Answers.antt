@@ -5,8 +5,8 @@ use Rattle.predictor.proofs.Rows.{first_back}
 use Rattle.predictor.proofs.inverse.rebuild_row_at.Goals as goal
 
 -- the row is inside the picture
-there : (s : tie.Start) → s.args.y * s.args.width + s.args.width ≤ s.args.height * s.args.width
-there s = row_there s.args.width s.args.height s.args.y s.requires.1.1.1
+there : (s : goal.Start) → s.args.y * s.args.width + s.args.width ≤ s.args.height * s.args.width
+there s = row_there s.args.width s.args.height s.args.y s.requires.y_lt_height
 
 pub slice_bounds-rebuild_first_row-end : goal.slice_bounds-rebuild_first_row-end
 slice_bounds-rebuild_first_row-end c = omega (arith, there c)

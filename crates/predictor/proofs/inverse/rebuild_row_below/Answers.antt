@@ -5,14 +5,14 @@ use Rattle.pixel.proofs.Blocks.{data_there}
 use Rattle.predictor.proofs.Rows.{pair_there, row_back}
 use Rattle.predictor.proofs.inverse.rebuild_row_below.Goals as goal
 
-pair : (s : tie.Start) → (s.args.y - 1) * s.args.width + 2 * s.args.width ≤ s.args.height * s.args.width
-pair s = pair_there _ _ _ s.requires.1.1.1.0 s.requires.1.1.1.1
+pair : (s : goal.Start) → (s.args.y - 1) * s.args.width + 2 * s.args.width ≤ s.args.height * s.args.width
+pair s = pair_there _ _ _ s.requires.le_y.0 s.requires.le_y.1
 
-blocks : (c : tie.After-subsample-size)
-    → 4 * (c.before.before.before.args.y / 2 ^ c.before.before.before.args.bits * c.subsample-size.result) + 4 * c.subsample-size.result ≤ length c.before.before.before.args.blocks.now
+blocks : (c : goal.After-subsample_size-bx)
+    → 4 * (c.args.y / 2 ^ c.args.bits * c.subsample_size-bx.result) + 4 * c.subsample_size-bx.result ≤ length c.args.blocks.now
 blocks c =
-    let p = c.before.before.before.requires in
-    data_there _ _ _ _ _ p.1.1.0 p.1.1.1.1 _ c.subsample-size.ensures
+    let p = c.requires in
+    data_there _ _ _ _ _ p.1.1.0 p.1.1.1.1 _ c.subsample_size-bx.ensures
 
 pub overflow_mul-a : goal.overflow_mul-a
 overflow_mul-a c = omega (arith, pair c)
@@ -47,4 +47,4 @@ returns c =
     let a = 4 * ((c.args.y - 1) * c.args.width) in
     let k : a + 8 * c.args.width - a ≡ 8 * c.args.width = omega arith in
     rw c.rebuild_row.ensures
-    (row_back _ _ _ _ _ c.args.image.now p.1.0 p.1.1.0 p.1.1.1.0 p.1.1.1.1 _ _ c.subsample_size-bx.ensures k)
+    (row_back _ _ _ _ _ c.args.image.now p.holds p.blocked p.le_y.0 p.le_y.1 _ _ c.subsample_size-bx.ensures k)

@@ -12,13 +12,13 @@ pub loop-i-init : goal.loop-i-init
 loop-i-init c = (omega arith, c.gain_eights-i.ensures.1, refl, run_none _ _ _ _, c.pixel_at-left.ensures)
 
 pub gain_1-left-requires : goal.gain_1-left-requires
-gain_1-left-requires c = (omega arith, c.loop-i.invariant.4)
+gain_1-left-requires c = record { i_in_bounds = omega arith; left_value = c.loop-i.invariant.4 }
 
 pub loop-i-preserved : goal.loop-i-preserved
 loop-i-preserved c =
     let l = c.loop-i in
     let p = c.put_pixel in
-    (omega arith, omega arith, p.auto.0 ∙ l.invariant.2, run_turn _ _ _ _ _ _ _ l.invariant.3 c.gain_1-left.ensures p.ensures l.invariant.0, left_next _ _ _ _ p.ensures (omega arith))
+    (omega arith, omega arith, p.auto.xs ∙ l.invariant.2, run_turn _ _ _ _ _ _ _ l.invariant.3 c.gain_1-left.ensures p.ensures l.invariant.0, left_next _ _ _ _ p.ensures (omega arith))
 
 pub returns : goal.returns
 returns c =

@@ -4,12 +4,12 @@ use Rattle.predictor.proofs.Ahead.{ahead_next, eight_next}
 use Rattle.predictor.proofs.left.gain_eight.Goals as goal
 
 pub gain_four-between-requires : goal.gain_four-between-requires
-gain_four-between-requires c = (omega arith, c.requires.prepared.four)
+gain_four-between-requires c = record { i_in_bounds = omega arith; ahead = c.requires.prepared.four }
 
 pub gain_four-before-requires : goal.gain_four-before-requires
 gain_four-before-requires c =
     let g = c.gain_four-between.ensures in
-    (omega arith, ahead_next _ _ 4 _ _ g.0 (omega arith) (omega arith) _ _ _ _ _ (omega arith) (omega arith) g.1 g.2 c.requires.prepared.more)
+    record { i_in_bounds = omega arith; ahead = ahead_next _ _ 4 _ _ g.0 (omega arith) (omega arith) _ _ _ _ _ (omega arith) (omega arith) g.1 g.2 c.requires.prepared.more }
 
 pub returns : goal.returns
 returns c =

@@ -19,7 +19,7 @@ pub loop-i-init : goal.loop-i-init
 loop-i-init c = (omega arith, omega arith, refl, run_none _ _ _ _, c.first_eight-eight.ensures)
 
 pub gain_eight-eight-requires : goal.gain_eight-eight-requires
-gain_eight-eight-requires c = (omega arith, c.loop-i.invariant.4)
+gain_eight-eight-requires c = record { i_in_bounds = omega arith; prepared = c.loop-i.invariant.4 }
 
 pub overflow_add-i-in-loop-i : goal.overflow_add-i-in-loop-i
 overflow_add-i-in-loop-i c = omega (arith, c.well-formed)
@@ -28,7 +28,7 @@ pub loop-i-preserved : goal.loop-i-preserved
 loop-i-preserved c =
     let l = c.loop-i in
     let g = c.gain_eight-eight in
-    (omega arith, omega arith, g.auto.0 ∙ l.invariant.2, eight_more _ _ _ _ _ _ l.invariant.3 g.ensures.0 l.invariant.0, g.ensures.1)
+    (omega arith, omega arith, g.auto.rows ∙ l.invariant.2, eight_more _ _ _ _ _ _ l.invariant.3 g.ensures.rows_after l.invariant.0, g.ensures.prepared_2)
 
 pub returns : goal.returns
 returns c = (c.loop-i.invariant.0, omega arith, c.loop-i.invariant.3)

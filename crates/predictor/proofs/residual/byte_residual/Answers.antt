@@ -6,4 +6,4 @@ use Rattle.predictor.proofs.residual.byte_residual.Goals as goal
 
 pub returns : goal.returns
 unfolding byte_residual
-returns c = rw (← c.predict_byte.ensures) (sub_wrapped _ _ _ c.wrapping_sub_u8.ensures (search rules))
+returns c = rw (← c.predict_byte.ensures) (sub_wrapped _ _ _ c.wrapping_sub_u8.ensures.value (search rules))

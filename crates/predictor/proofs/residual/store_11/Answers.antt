@@ -26,7 +26,7 @@ loop-x-preserved c =
     let p = c.put_pixel in (
       omega arith,
       omega arith,
-      p.auto.0 ∙ l.invariant.2,
+      p.auto.xs ∙ l.invariant.2,
       run_turn _ _ _ _ _ _ _ l.invariant.3 c.residual_11-v.ensures p.ensures l.invariant.0,
     )
 

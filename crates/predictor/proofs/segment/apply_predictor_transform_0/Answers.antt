@@ -15,7 +15,7 @@ loop-i-preserved c =
     let p = c.write_pixel in (
       omega arith,
       omega arith,
-      p.auto.0 ∙ l.invariant.2,
+      p.auto.xs ∙ l.invariant.2,
       run_turn _ _ _ _ _ _ _ l.invariant.3 c.gain_0-v.ensures p.ensures l.invariant.0,
     )
 

@@ -10,7 +10,7 @@ pub loop-i-init : goal.loop-i-init
 loop-i-init c = (omega arith, omega arith, refl, run_none _ _ _ _, c.pixel_at-left.ensures)
 
 pub gain_13-left-requires : goal.gain_13-left-requires
-gain_13-left-requires c = (omega arith, c.loop-i.invariant.4)
+gain_13-left-requires c = record { inside = omega arith; left_value = c.loop-i.invariant.4 }
 
 pub loop-i-preserved : goal.loop-i-preserved
 loop-i-preserved c =

@@ -17,7 +17,7 @@ loop-i-init c =
     (omega arith, omega arith, refl, run_none _ _ _ _, c.pixel_at-left.ensures, c.left_nearer-near.ensures)
 
 pub turn_11-turn-requires : goal.turn_11-turn-requires
-turn_11-turn-requires c = (omega arith, (c.loop-i.invariant.4, c.loop-i.invariant.5))
+turn_11-turn-requires c = record { inside = omega arith; left_value = (c.loop-i.invariant.4, c.loop-i.invariant.5) }
 
 pub loop-i-preserved : goal.loop-i-preserved
 loop-i-preserved c =
@@ -26,7 +26,7 @@ loop-i-preserved c =
     let u = c.turn_11-turn.ensures in (
       omega arith,
       omega arith,
-      p.auto.0 ∙ l.invariant.2,
+      p.auto.xs ∙ l.invariant.2,
       run_turn _ _ _ _ _ _ _ l.invariant.3 u.0 p.ensures l.invariant.0,
       left_next _ _ _ _ p.ensures (omega arith),
       nearer_next _ _ _ _ _ _ p.ensures u.1 (omega arith) (omega arith) (omega arith),

@@ -8,7 +8,4 @@ returns c =
     let h = c.choose.ensures in
     let t = c.pixel_at-t.ensures in
     let n = c.pixel_at-next.ensures in
-    let v = c.pixel_at.ensures in (
-      h.0 ∙ rw (v, t, c.requires.left_value.0, c.requires.left_value.1, around_11),
-      h.1 ∙ rw (n, t),
-    )
+    let v = c.pixel_at.ensures in record { pixel_value = h.0 ∙ rw (v, t, c.requires.left_value.0, c.requires.left_value.1, around_11); near_value = h.1 ∙ rw (n, t) }

@@ -64,12 +64,3 @@ unused_not cs k j e l = sym (go (Unused cs k k) refl)
 
 pub unused_done : (cs : List ℕ) (k j : ℕ) → Unused cs k j ≡ true → j ≡ k → false ≡ not (Unused cs k k)
 unused_done cs k j e q = let d : Unused cs k k ≡ true = rw q at e in rw d refl
-
--- a test of the code on `!a`, where a is the definition's b
-pub not_taken : (a b : Bool) → a ≡ b → not a ≡ true → b ≡ false
-not_taken true b e q = sym e ∙ sym q
-not_taken false b e q = sym e
-
-pub not_left : (a b : Bool) → a ≡ b → not a ≡ false → b ≡ true
-not_left true b e q = sym e
-not_left false b e q = sym e ∙ sym q

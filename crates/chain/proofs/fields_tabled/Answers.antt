@@ -1,6 +1,7 @@
 -- `fields_tabled` meets its contract, kind by kind.
 use borrow.Author.Tests.{eq-eqb, ne_eqb}
 use borrow.Author.Rules.{rules}
+use native.Mathlib.Omega.{arith}
 use Rattle.format.specs.Chain.{by_kind}
 use Rattle.format.specs.Refusals.{tabled}
 use Rattle.chain.proofs.fields_tabled.Goals as goal
@@ -27,17 +28,18 @@ table_tabled-requires c = search rules
 
 pub returns-in-0 : goal.returns-in-0
 unfolding tabled by_kind
-returns-in-0 c = rw (eq-eqb _ _ c.if-s-ne0.false, c.in-0.keys1) c.blocks_tabled.ensures
+returns-in-0 c = rw (eq-eqb _ _ c.if-s-ne0.false, c.in-0.is) c.blocks_tabled.ensures
 
 pub returns-in-1 : goal.returns-in-1
 unfolding tabled by_kind
-returns-in-1 c = rw (eq-eqb _ _ c.if-s-ne0.false, c.in-1.keys2) c.blocks_tabled-in-1.ensures
+returns-in-1 c = rw (eq-eqb _ _ c.if-s-ne0.false, c.in-1.is) c.blocks_tabled-in-1.ensures
 
 pub returns-in-2 : goal.returns-in-2
 unfolding tabled by_kind
-returns-in-2 c = rw (eq-eqb _ _ c.if-s-ne0.false, c.in-2.keys3) c.green_tabled.ensures
+returns-in-2 c = rw (eq-eqb _ _ c.if-s-ne0.false, c.in-2.is) c.green_tabled.ensures
 
 pub returns-in_default : goal.returns-in_default
 unfolding tabled by_kind
 returns-in_default c =
-    let r = c.in_default.rest in rw (eq-eqb _ _ c.if-s-ne0.false, ne_eqb _ _ r.0.0.1, ne_eqb _ _ r.0.1, ne_eqb _ _ r.1) c.table_tabled.ensures
+    let k = c.args.s.kind in
+    rw (eq-eqb _ _ c.if-s-ne0.false, ne_eqb k 0 (λ e. omega arith), ne_eqb k 1 (λ e. omega arith), ne_eqb k 2 (λ e. omega arith)) c.table_tabled.ensures

@@ -10,7 +10,7 @@ refused_length-requires c = search rules
 
 pub returns-then-refused_length : goal.returns-then-refused_length
 unfolding color_map_answer unadjust_color_map
-returns-then-refused_length c = rw (sym c.refused_length.ensures ∙ c.if-refused_length.true) (refl, refl)
+returns-then-refused_length c = rw (sym c.refused_length.ensures ∙ c.if-refused_length.true) (record { value = refl; color_map_after = refl })
 
 pub unadjust-requires : goal.unadjust-requires
 unfolding color_map_answer unadjust_color_map
@@ -20,4 +20,4 @@ pub returns : goal.returns
 unfolding color_map_answer unadjust_color_map
 returns c =
     rw (sym c.refused_length.ensures ∙ c.if-refused_length.false)
-    (refl, c.unadjust.ensures)
+    (record { value = refl; color_map_after = c.unadjust.ensures })

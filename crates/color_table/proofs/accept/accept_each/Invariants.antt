@@ -2,10 +2,8 @@
 use mathlib.Core.Bool.{true}
 use mathlib.Core.Path.{◌≡◌}
 use Prim.Native.Nat.{◌≤◌, ◌-◌}
-use native.Mathlib.Omega.{arith}
 use Rattle.format.specs.Picture.{pixels}
 use Rattle.format.specs.ColorTable.{have_entries}
-use Rattle.color_table.proofs.Index.{accepted_more, accepted_not, accepted_done}
 use Rattle.color_table.proofs.accept.accept_each.Given as goal
 
 abbrev pub invariant-loop-i : goal.invariant-loop-i

@@ -2,7 +2,6 @@
 use mathlib.Core.Bool.{◌||◌}
 use mathlib.Core.Path.{sym}
 use native.Mathlib.Omega.{arith}
-use borrow.Author.Rules.{rules}
 use Rattle.format.specs.Picture.{pixels}
 use Rattle.format.proofs.Choice.{and_left, and_right}
 use Rattle.pixel.specs.Word.{unword}

@@ -1,12 +1,7 @@
 -- `accept_groups` meets its contract: before each turn the pixels before i, and a, have an entry.
-use mathlib.Core.Bool.{true}
-use mathlib.Core.Path.{◌≡◌, sym, ◌∙◌}
-use Prim.Native.Nat.{◌≤◌, ◌+◌, ◌-◌, ◌%◌}
+use mathlib.Core.Path.{sym, ◌∙◌}
+use Prim.Native.Nat.{◌+◌, ◌-◌}
 use native.Mathlib.Omega.{arith}
-use borrow.Author.Tests.{not-true, not-false}
-use Rattle.format.specs.Picture.{pixels}
-use Rattle.format.specs.ColorTable.{has_entry, have_entries}
-use Rattle.pixel.specs.Word.{unword}
 use Rattle.color_table.proofs.Index.{entry_accepted, taken_entry, accepted_front, accepted_fewer, accepted_done}
 use Rattle.color_table.proofs.accept.accept_groups.Goals as goal
 
@@ -23,12 +18,12 @@ accept_group-requires c =
 
 pub returns-then-not-accept_group : goal.returns-then-not-accept_group
 returns-then-not-accept_group c =
-    accepted_fewer _ _ _ (c.loop-i.i + 16) c.args.count (sym c.accept_group.ensures ∙ not-true _ c.if-not-accept_group.true) (omega arith)
+    accepted_fewer _ _ _ (c.loop-i.i + 16) c.args.count (sym c.accept_group.ensures ∙ c.if-not-accept_group.true) (omega arith)
 
 pub loop-i-preserved : goal.loop-i-preserved
 loop-i-preserved c =
     let i = c.loop-i.i in
-    let t = sym c.accept_group.ensures ∙ not-false _ c.if-not-accept_group.false in
+    let t = sym c.accept_group.ensures ∙ c.if-not-accept_group.false in
     (omega arith, omega arith, t, taken_entry _ _ _ (i + 16) (i + 15) _ t c.word_at-a-in-loop-i.ensures (omega arith))
 
 pub returns : goal.returns

@@ -1,13 +1,10 @@
 -- `accept_groups` meets its contract: before each turn the pixels before i, and a, have an entry.
 use mathlib.Core.Bool.{true}
-use mathlib.Core.Path.{◌≡◌, sym, ◌∙◌}
-use Prim.Native.Nat.{◌≤◌, ◌+◌, ◌-◌, ◌%◌}
-use native.Mathlib.Omega.{arith}
-use borrow.Author.Tests.{not-true, not-false}
+use mathlib.Core.Path.{◌≡◌}
+use Prim.Native.Nat.{◌≤◌, ◌-◌, ◌%◌}
 use Rattle.format.specs.Picture.{pixels}
 use Rattle.format.specs.ColorTable.{has_entry, have_entries}
 use Rattle.pixel.specs.Word.{unword}
-use Rattle.color_table.proofs.Index.{entry_accepted, taken_entry, accepted_front, accepted_fewer, accepted_done}
 use Rattle.color_table.proofs.accept.accept_groups.Given as goal
 
 abbrev pub invariant-loop-i : goal.invariant-loop-i

@@ -1,6 +1,5 @@
 -- `index_at` meets its contract: an index is below the table's size, and that is below the base.
 use native.Mathlib.Omega.{arith}
-use borrow.Author.Rules.{rules}
 use Rattle.color_table.proofs.Index.{row_inside, row_below}
 use Rattle.color_table.proofs.Digits.{base_in}
 use Rattle.color_table.proofs.each.index_at.Goals as goal

@@ -1,16 +1,10 @@
 -- `pack_doubles` meets its contract: before each turn the records from `from` up to j are there.
-use mathlib.Core.Path.{◌≡◌, refl, ◌∙◌}
+use mathlib.Core.Path.{◌≡◌}
 use Prim.Native.Nat.{◌≤◌, ◌-◌}
-use native.Mathlib.Omega.{arith}
-use borrow.Author.Rules.{rules}
 use lib.ListN.{length}
 use Rattle.format.specs.Picture.{pixels}
 use Rattle.format.specs.ColorTable.{packed}
 use Rattle.pixel.specs.Cells.{pixel_cells, run, given}
-use Rattle.pixel.proofs.Cells.{run_none, run_done}
-use Rattle.color_table.proofs.Index.{taken_below}
-use Rattle.color_table.proofs.Digits.{base_of}
-use Rattle.color_table.proofs.Records.{double_record, given_turn}
 use Rattle.color_table.proofs.each.pack_doubles.Given as goal
 
 abbrev pub invariant-loop-j : goal.invariant-loop-j

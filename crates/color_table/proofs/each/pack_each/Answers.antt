@@ -1,12 +1,6 @@
 -- `pack_each` meets its contract: before each turn the records from `from` up to j are there.
-use mathlib.Core.Path.{◌≡◌, refl, ◌∙◌}
-use Prim.Native.Nat.{◌≤◌, ◌-◌}
+use mathlib.Core.Path.{refl, ◌∙◌}
 use native.Mathlib.Omega.{arith}
-use borrow.Author.Rules.{rules}
-use lib.ListN.{length}
-use Rattle.format.specs.Picture.{pixels}
-use Rattle.format.specs.ColorTable.{packed}
-use Rattle.pixel.specs.Cells.{pixel_cells, run, given}
 use Rattle.pixel.proofs.Cells.{run_none, run_done}
 use Rattle.color_table.proofs.Records.{record_first, record_row, given_turn}
 use Rattle.color_table.proofs.each.pack_each.Goals as goal

@@ -1,7 +1,6 @@
 -- `first_holds` meets its contract: a slot's index is below the table's size, so that what it holds is an entry.
 use mathlib.Core.Path.{sym, ◌∙◌}
 use native.Mathlib.Omega.{arith}
-use borrow.Author.Rules.{rules}
 use Rattle.format.proofs.Pixels.{equal_true}
 use Rattle.color_table.proofs.Index.{entry_accepted}
 use Rattle.color_table.proofs.find.first_holds.Goals as goal

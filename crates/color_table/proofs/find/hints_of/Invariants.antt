@@ -1,11 +1,7 @@
 -- `hints_of` meets its contract: before each turn the entries from i on are linked.
-use mathlib.Core.Path.{◌≡◌, ap, ◌∙◌}
-use Prim.Native.Nat.{◌≤◌, ◌-◌}
-use native.Mathlib.Omega.{arith}
-use borrow.Author.Rules.{rules}
+use Prim.Native.Nat.{◌≤◌}
 use Rattle.format.specs.Picture.{pixels}
-use Rattle.color_table.specs.Hints.{slot_of, Linked}
-use Rattle.color_table.proofs.Hints.{linked_more}
+use Rattle.color_table.specs.Hints.{Linked}
 use Rattle.color_table.proofs.find.hints_of.Given as goal
 
 abbrev pub invariant-loop-i : goal.invariant-loop-i

@@ -1,12 +1,9 @@
 -- `scan` meets its contract: before each turn no entry before i equals w.
 use mathlib.Core.Path.{◌≡◌}
 use Prim.Native.Nat.{◌≤◌, ◌-◌}
-use native.Mathlib.Omega.{arith}
-use borrow.Author.Rules.{rules}
 use Rattle.format.specs.Picture.{pixels}
 use Rattle.format.specs.ColorTable.{lowest, index_of}
 use Rattle.pixel.specs.Word.{unword}
-use Rattle.color_table.proofs.Index.{scan_none, scan_more, scan_found, scan_end}
 use Rattle.color_table.proofs.find.scan.Given as goal
 
 abbrev pub invariant-loop-i : goal.invariant-loop-i

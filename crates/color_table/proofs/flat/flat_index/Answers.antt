@@ -1,11 +1,7 @@
 -- `flat_index` meets its contract: before each turn r counts the entries before j that come before the pixel's.
 use mathlib.Core.Bool.{◌||◌}
-use mathlib.Core.Path.{◌≡◌}
-use Prim.Native.Nat.{◌≤◌, ◌-◌}
+use Prim.Native.Nat.{◌≤◌}
 use native.Mathlib.Omega.{arith}
-use borrow.Author.Rules.{rules}
-use lib.Dec.{ltb}
-use Rattle.format.specs.Choice.{if◌then◌else◌}
 use Rattle.format.specs.Picture.{pixels}
 use Rattle.format.specs.ColorTable.{index_of}
 use Rattle.pixel.specs.Word.{unword}

@@ -1,15 +1,11 @@
 -- `flat_index` meets its contract: before each turn r counts the entries before j that come before the pixel's.
-use mathlib.Core.Bool.{◌||◌}
 use mathlib.Core.Path.{◌≡◌}
 use Prim.Native.Nat.{◌≤◌, ◌-◌}
-use native.Mathlib.Omega.{arith}
-use borrow.Author.Rules.{rules}
 use lib.Dec.{ltb}
 use Rattle.format.specs.Choice.{if◌then◌else◌}
 use Rattle.format.specs.Picture.{pixels}
 use Rattle.format.specs.ColorTable.{index_of}
 use Rattle.pixel.specs.Word.{unword}
-use Rattle.color_table.proofs.Index.{found_none, found_more, before_none, before_more, before_all, unless_small}
 use Rattle.color_table.proofs.flat.flat_index.Given as goal
 
 abbrev pub invariant-loop-j : goal.invariant-loop-j

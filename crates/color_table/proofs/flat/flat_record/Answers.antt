@@ -1,14 +1,11 @@
 -- `flat_record` meets its contract: before each turn b holds the first k indices.
 use mathlib.Core.Path.{◌≡◌, sym, ap, ◌∙◌}
-use Prim.Native.Nat.{ℕ, ◌≤◌, ◌<◌, ◌-◌, ◌+◌, ◌^◌}
+use Prim.Native.Nat.{ℕ, ◌-◌, ◌+◌}
 use native.Mathlib.Nat.{pow-zero}
 use native.Mathlib.Omega.{arith}
 use Rattle.format.specs.Pixel.{pixel}
-use Rattle.format.specs.Picture.{pixels}
-use Rattle.format.specs.ColorTable.{digits}
-use Rattle.color_table.specs.Pack.{row_indices}
 use Rattle.color_table.proofs.Index.{column_below, row_inside}
-use Rattle.color_table.proofs.Digits.{Base, base_of, digits_none, digits_more, weight_more, weight_small, small_more, small_product}
+use Rattle.color_table.proofs.Digits.{base_of, digits_none, digits_more, weight_more, weight_small, small_more, small_product}
 use Rattle.color_table.proofs.flat.flat_record.Goals as goal
 
 pub loop-k-init : goal.loop-k-init

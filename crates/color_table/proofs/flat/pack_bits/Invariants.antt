@@ -1,14 +1,10 @@
 -- `pack_bits` meets its contract: before each turn the first j records are there.
-use mathlib.Core.Path.{◌≡◌, refl, ◌∙◌}
-use Prim.Native.Nat.{◌≤◌, ◌-◌, ◌*◌, ◌/◌, ◌%◌}
-use native.Mathlib.Omega.{arith}
-use borrow.Author.Rules.{rules}
+use mathlib.Core.Path.{◌≡◌}
+use Prim.Native.Nat.{◌≤◌, ◌-◌, ◌%◌}
 use lib.ListN.{length}
 use Rattle.format.specs.Picture.{pixels}
-use Rattle.format.specs.ColorTable.{packed_width, packed}
+use Rattle.format.specs.ColorTable.{packed}
 use Rattle.pixel.specs.Cells.{pixel_cells, run, given}
-use Rattle.pixel.proofs.Given.{given_none}
-use Rattle.pixel.proofs.Rows.{run_then}
 use Rattle.color_table.proofs.flat.pack_bits.Given as goal
 
 abbrev pub invariant-loop-j : goal.invariant-loop-j

@@ -1,6 +1,5 @@
 -- `put_pairs` meets its contract: each of the four is the row's record.
 use native.Mathlib.Omega.{arith}
-use borrow.Author.Rules.{rules}
 use Rattle.color_table.proofs.Records.{four_records}
 use Rattle.color_table.proofs.flat.put_pairs.Goals as goal
 

@@ -1,5 +1,4 @@
 -- `put_four` meets its contract.
-use borrow.Author.Rules.{rules}
 use Rattle.color_table.proofs.Records.{given_four}
 use Rattle.color_table.proofs.four.put_four.Goals as goal
 

@@ -1,12 +1,8 @@
 -- `eight_of` meets its contract: where `all` is true, the first k pixels are a or b.
-use mathlib.Core.Bool.{true}
 use mathlib.Core.Path.{◌≡◌}
-use Prim.Native.Nat.{◌≤◌, ◌-◌}
 use native.Mathlib.Omega.{arith}
-use borrow.Author.Rules.{rules}
 use Rattle.format.specs.Picture.{pixels}
 use Rattle.pixel.specs.Word.{unword}
-use Rattle.color_table.specs.OneOf.{EachOf}
 use Rattle.color_table.proofs.Index.{each_more}
 use Rattle.color_table.proofs.groups.eight_of.Goals as goal
 

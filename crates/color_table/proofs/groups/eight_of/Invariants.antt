@@ -2,12 +2,9 @@
 use mathlib.Core.Bool.{true}
 use mathlib.Core.Path.{◌≡◌}
 use Prim.Native.Nat.{◌≤◌, ◌-◌}
-use native.Mathlib.Omega.{arith}
-use borrow.Author.Rules.{rules}
 use Rattle.format.specs.Picture.{pixels}
 use Rattle.pixel.specs.Word.{unword}
 use Rattle.color_table.specs.OneOf.{EachOf}
-use Rattle.color_table.proofs.Index.{each_more}
 use Rattle.color_table.proofs.groups.eight_of.Given as goal
 
 abbrev pub invariant-loop-k : goal.invariant-loop-k

@@ -1,5 +1,4 @@
 -- `pack_front` meets its contract: both ways do.
-use borrow.Author.Rules.{rules}
 use Rattle.color_table.proofs.Digits.{row_at, pair_of}
 use Rattle.color_table.proofs.pack.pack_front.Goals as goal
 

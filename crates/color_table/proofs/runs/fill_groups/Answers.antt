@@ -1,15 +1,10 @@
 -- `fill_groups` meets its contract: before each turn the groups before g are the last pixel, and have its record.
-use mathlib.Core.Path.{◌≡◌, refl, ◌∙◌}
-use Prim.Native.Nat.{ℕ, ◌≤◌, ◌<◌, ◌-◌, ◌*◌, ◌/◌}
+use mathlib.Core.Path.{refl, ◌∙◌}
+use Prim.Native.Nat.{◌*◌, ◌/◌}
 use native.Mathlib.Omega.{arith}
-use borrow.Author.Rules.{rules}
-use borrow.Author.Tests.{not-false}
-use lib.ListN.{length}
 use Rattle.format.specs.Picture.{pixels}
-use Rattle.pixel.specs.Cells.{pixel_cells, run, given}
 use Rattle.pixel.specs.Word.{unword}
 use Rattle.pixel.proofs.Blocks.{row_there}
-use Rattle.color_table.specs.Pack.{plain}
 use Rattle.color_table.proofs.Index.{each_both, all_more}
 use Rattle.color_table.proofs.Records.{groups_none, group_next}
 use Rattle.color_table.proofs.runs.fill_groups.Goals as goal
@@ -32,7 +27,7 @@ loop-g-preserved c =
     let l = c.loop-g in
     let p = c.fill in
     let w = unword c.args.last.word in
-    let b = each_both w w (pixels c.args.row.now) (16 * l.g) _ _ c.eight_of.ensures c.eight_of-in-loop-g.ensures (not-false _ c.if-not-eight_of.false) in (
+    let b = each_both w w (pixels c.args.row.now) (16 * l.g) _ _ c.eight_of.ensures c.eight_of-in-loop-g.ensures c.if-not-eight_of.false in (
       omega arith,
       omega arith,
       p.auto.out ∙ l.invariant.2,

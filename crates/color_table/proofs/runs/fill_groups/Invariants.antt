@@ -1,17 +1,11 @@
 -- `fill_groups` meets its contract: before each turn the groups before g are the last pixel, and have its record.
-use mathlib.Core.Path.{◌≡◌, refl, ◌∙◌}
+use mathlib.Core.Path.{◌≡◌}
 use Prim.Native.Nat.{ℕ, ◌≤◌, ◌<◌, ◌-◌, ◌*◌, ◌/◌}
-use native.Mathlib.Omega.{arith}
-use borrow.Author.Rules.{rules}
-use borrow.Author.Tests.{not-false}
 use lib.ListN.{length}
 use Rattle.format.specs.Picture.{pixels}
 use Rattle.pixel.specs.Cells.{pixel_cells, run, given}
 use Rattle.pixel.specs.Word.{unword}
-use Rattle.pixel.proofs.Blocks.{row_there}
 use Rattle.color_table.specs.Pack.{plain}
-use Rattle.color_table.proofs.Index.{each_both, all_more}
-use Rattle.color_table.proofs.Records.{groups_none, group_next}
 use Rattle.color_table.proofs.runs.fill_groups.Given as goal
 
 abbrev pub invariant-loop-g : goal.invariant-loop-g

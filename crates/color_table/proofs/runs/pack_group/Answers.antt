@@ -2,14 +2,9 @@
 use mathlib.Core.Path.{◌≡◌}
 use Prim.Native.Nat.{◌+◌, ◌-◌, ◌*◌, ◌/◌}
 use native.Mathlib.Omega.{arith}
-use borrow.Author.Rules.{rules}
-use Rattle.color_table.proofs.Digits.{Base, base_in, row_at, few_of}
+use Rattle.color_table.proofs.Digits.{base_in, row_at, few_of}
 use Rattle.color_table.proofs.Records.{groups_inside, group_columns}
 use Rattle.color_table.proofs.runs.pack_group.Goals as goal
-
-module _ (s : goal.Start) where
-  base : Base s.args.p.size s.args.p.n s.args.p.range
-  base = base_in _ _ _ _ s.requires.packs
 
 pub overflow_mul-g : goal.overflow_mul-g
 overflow_mul-g c = let w = c.requires.packs.row.narrow in omega arith
@@ -18,7 +13,7 @@ pub put_pairs-requires : goal.put_pairs-requires
 put_pairs-requires c =
     let q = c.if-p-eq4.true in
     let l = rw q at c.requires.g_bound.1 in
-    record { few = few_of _ _ _ _ q (base c) c.requires.packs.row.base c.requires.packs.table.there; row = row_at 4 _ _ _ _ _ _ q c.requires.packs.row; j_bound = (omega arith, omega arith) }
+    record { few = few_of _ _ _ _ q (base_in _ _ _ _ c.requires.packs) c.requires.packs.row.base c.requires.packs.table.there; row = row_at 4 _ _ _ _ _ _ q c.requires.packs.row; j_bound = (omega arith, omega arith) }
 
 pub overflow_mul-j : goal.overflow_mul-j
 overflow_mul-j c = let w = c.requires.packs.row.narrow in omega arith
@@ -33,7 +28,7 @@ pack_doubles-requires c =
     record { table = c.requires.packs.table; row = row_at 2 _ _ _ _ _ _ q c.requires.packs.row; from_le_to = (omega arith, omega arith, omega arith) }
 
 pub nonzero_div-m : goal.nonzero_div-m
-nonzero_div-m c = let p = (base c).some in omega arith
+nonzero_div-m c = let p = (base_in _ _ _ _ c.requires.packs).some in omega arith
 
 pub overflow_mul-j-else-p-eq2 : goal.overflow_mul-j-else-p-eq2
 overflow_mul-j-else-p-eq2 c = let w = c.requires.packs.row.narrow in let p = group_columns c.args.g c.args.p.n in omega arith
@@ -43,7 +38,7 @@ overflow_add-j-else-p-eq2 c = let w = c.requires.packs.row.narrow in let p = gro
 
 pub pack_each-requires : goal.pack_each-requires
 pack_each-requires c =
-    let b = base c in
+    let b = base_in _ _ _ _ c.requires.packs in
     let p = group_columns c.args.g c.args.p.n in
     let i = groups_inside _ _ b.group _ _ (c.args.g + 1) c.requires.packs.row.places b.some c.requires.g_bound.0 in
     record { packs = c.requires.packs; from_le_to = (omega arith, omega arith, omega arith) }

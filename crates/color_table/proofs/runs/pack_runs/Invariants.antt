@@ -1,16 +1,8 @@
 -- `pack_runs` meets its contract: before each turn the records of the groups that are packed are there.
-use mathlib.Core.Path.{◌≡◌, refl, ◌∙◌}
+use mathlib.Core.Path.{◌≡◌}
 use Prim.Native.Nat.{◌≤◌, ◌-◌, ◌*◌, ◌/◌}
-use native.Mathlib.Omega.{arith}
-use borrow.Author.Rules.{rules}
 use lib.ListN.{length}
-use Rattle.format.specs.ColorTable.{per_pixel, packed_width}
-use Rattle.format.proofs.ColorTable.{per_pixel_pos}
-use Rattle.pixel.proofs.Rows.{no_rows}
 use Rattle.color_table.specs.Pack.{Records, LastOf}
-use Rattle.color_table.proofs.Rows.{packed_fewer}
-use Rattle.color_table.proofs.Digits.{Base, base_in}
-use Rattle.color_table.proofs.Records.{groups_inside, groups_then}
 use Rattle.color_table.proofs.runs.pack_runs.Given as goal
 
 abbrev pub invariant-loop-last : goal.invariant-loop-last

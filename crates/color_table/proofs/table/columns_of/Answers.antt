@@ -1,13 +1,9 @@
 -- `columns_of` meets its contract: before each turn the pixels before i are there.
-use mathlib.Core.Path.{◌≡◌, ◌∙◌}
-use Prim.Native.Nat.{◌*◌, ◌≤◌, ◌-◌}
+use mathlib.Core.Path.{◌∙◌}
 use native.Mathlib.Nat.{mod-lt, div-lt_iff_lt-mul}
 use native.Mathlib.Omega.{arith}
-use borrow.Author.Rules.{rules}
-use lib.ListN.{length}
-use Rattle.pixel.specs.Cells.{pixel_cells, run, given}
 use Rattle.pixel.proofs.Given.{given_none, given_next}
-use Rattle.color_table.proofs.Entries.{column_in, column-in, columns_whole}
+use Rattle.color_table.proofs.Entries.{column-in, columns_whole}
 use Rattle.color_table.proofs.table.columns_of.Goals as goal
 
 pub loop-i-init : goal.loop-i-init

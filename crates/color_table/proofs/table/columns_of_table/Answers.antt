@@ -1,5 +1,4 @@
 -- `columns_of_table` meets its contract.
-use borrow.Author.Rules.{rules}
 use Rattle.color_table.proofs.table.columns_of_table.Goals as goal
 
 pub columns_of-requires : goal.columns_of-requires

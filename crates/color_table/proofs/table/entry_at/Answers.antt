@@ -1,7 +1,6 @@
 -- `entry_at` meets its contract, byte by byte.
 use mathlib.Core.Path.{refl}
 use Rattle.color_table.specs.Table.{entry_in}
-use borrow.Author.Rules.{rules}
 use Rattle.color_table.proofs.table.entry_at.Goals as goal
 
 pub returns : goal.returns

@@ -1,6 +1,5 @@
 -- `index_in` meets its contract: a shift is a quotient.
 use native.Mathlib.Omega.{arith}
-use borrow.Author.Rules.{rules}
 use Rattle.format.specs.ColorTable.{index_in}
 use Rattle.color_table.proofs.Entries.{shift_small, range_small, rest_small}
 use Rattle.color_table.proofs.table.index_in.Goals as goal

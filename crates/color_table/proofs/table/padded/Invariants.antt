@@ -1,13 +1,10 @@
 -- `padded` meets its contract: before each turn the rows before i are entries, and those from i on are clear.
 use mathlib.Core.Path.{◌≡◌}
 use Prim.Native.Nat.{ℕ, ◌≤◌, ◌<◌, ◌-◌}
-use native.Mathlib.Omega.{arith}
-use borrow.Author.Rules.{rules}
-use lib.ListN.{length, length-set}
+use lib.ListN.{length}
 use Rattle.format.specs.Pixel.{clear}
 use Rattle.format.specs.Picture.{pixels}
 use Rattle.color_table.specs.Table.{entry_in}
-use Rattle.color_table.proofs.Entries.{entries_more, clear_more, padded_whole}
 use Rattle.color_table.proofs.table.padded.Given as goal
 
 abbrev pub invariant-loop-i : goal.invariant-loop-i

@@ -2,7 +2,6 @@
 use mathlib.Core.Path.{refl}
 use native.Mathlib.Nat.{mod-lt, div-le_self}
 use native.Mathlib.Omega.{arith}
-use borrow.Author.Rules.{rules}
 use Rattle.pixel.proofs.Blocks.{row_there}
 use Rattle.color_table.proofs.Rows.{column_is}
 use Rattle.color_table.proofs.unpack.column_at.Goals as goal

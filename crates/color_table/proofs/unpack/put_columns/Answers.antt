@@ -1,5 +1,4 @@
 -- `put_columns` meets its contract.
-use borrow.Author.Rules.{rules}
 use Rattle.color_table.proofs.Rows.{four_in}
 use Rattle.color_table.proofs.unpack.put_columns.Goals as goal
 

@@ -1,7 +1,6 @@
 -- `put_entries` meets its contract: four pixels are read and put.
 use mathlib.Core.Path.{◌∙◌}
 use native.Mathlib.Omega.{arith}
-use borrow.Author.Rules.{rules}
 use Rattle.color_table.proofs.Records.{given_four}
 use Rattle.color_table.proofs.unpack.put_entries.Goals as goal
 

@@ -2,7 +2,6 @@
 use mathlib.Core.Path.{◌≡◌}
 use Prim.Native.Nat.{ℕ, ◌*◌}
 use native.Mathlib.Omega.{arith}
-use borrow.Author.Rules.{rules}
 use Rattle.pixel.proofs.Places.{places_1, places_2, places_4, last_place}
 use Rattle.color_table.proofs.unpack.unpack_by.Goals as goal
 

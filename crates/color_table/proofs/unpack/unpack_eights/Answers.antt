@@ -1,10 +1,6 @@
 -- `unpack_eights` meets its contract: before each turn the columns from 8 * k on are there.
-use mathlib.Core.Path.{◌≡◌, refl, ◌∙◌}
-use Prim.Native.Nat.{◌≤◌, ◌-◌, ◌*◌}
+use mathlib.Core.Path.{refl, ◌∙◌}
 use native.Mathlib.Omega.{arith}
-use borrow.Author.Rules.{rules}
-use lib.ListN.{length}
-use Rattle.color_table.specs.Unpack.{Columns}
 use Rattle.color_table.proofs.Rows.{columns_none, columns_before, columns_done}
 use Rattle.color_table.proofs.unpack.unpack_eights.Goals as goal
 

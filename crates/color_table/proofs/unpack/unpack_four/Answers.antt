@@ -1,5 +1,4 @@
 -- `unpack_four` meets its contract: either way does.
-use borrow.Author.Rules.{rules}
 use Rattle.color_table.proofs.unpack.unpack_four.Goals as goal
 
 pub returns-then-n-eq1 : goal.returns-then-n-eq1

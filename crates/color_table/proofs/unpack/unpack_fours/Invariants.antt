@@ -1,11 +1,8 @@
 -- `unpack_fours` meets its contract: before each turn the columns from 4 * q on are there.
-use mathlib.Core.Path.{◌≡◌, refl, ◌∙◌}
+use mathlib.Core.Path.{◌≡◌}
 use Prim.Native.Nat.{◌≤◌, ◌-◌, ◌*◌}
-use native.Mathlib.Omega.{arith}
-use borrow.Author.Rules.{rules}
 use lib.ListN.{length}
 use Rattle.color_table.specs.Unpack.{Columns}
-use Rattle.color_table.proofs.Rows.{columns_none, columns_before, columns_done}
 use Rattle.color_table.proofs.unpack.unpack_fours.Given as goal
 
 abbrev pub invariant-loop-q : goal.invariant-loop-q

@@ -1,10 +1,6 @@
 -- `unpack_rest` meets its contract: before each turn the columns from x on are there.
-use mathlib.Core.Path.{◌≡◌, refl, ◌∙◌}
-use Prim.Native.Nat.{◌≤◌, ◌-◌}
+use mathlib.Core.Path.{refl, ◌∙◌}
 use native.Mathlib.Omega.{arith}
-use borrow.Author.Rules.{rules}
-use lib.ListN.{length}
-use Rattle.color_table.specs.Unpack.{Columns}
 use Rattle.color_table.proofs.Rows.{columns_none, columns_before, columns_done, given_one}
 use Rattle.color_table.proofs.unpack.unpack_rest.Goals as goal
 

@@ -1,6 +1,5 @@
 -- `unpack_row` meets its contract: the last columns, and those before them.
 use native.Mathlib.Omega.{arith}
-use borrow.Author.Rules.{rules}
 use Rattle.color_table.proofs.Rows.{columns_before}
 use Rattle.color_table.proofs.unpack.unpack_row.Goals as goal
 

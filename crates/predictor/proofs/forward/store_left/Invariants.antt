@@ -1,10 +1,8 @@
 -- `store_left` meets its contract: before each turn the columns up to x are stored.
-use Rattle.std.proofs.Common.{◌≡◌, ◌-◌, ◌≤◌, length, refl, ◌∙◌, arith, rules}
+use Rattle.std.proofs.Common.{◌≡◌, ◌-◌, ◌≤◌, length}
 use Rattle.format.specs.Picture.{pixels}
 use Rattle.pixel.specs.Cells.{pixel_cells, run, given}
-use Rattle.pixel.proofs.Cells.{run_none, run_done}
 use Rattle.predictor.specs.Row.{left_residual}
-use Rattle.predictor.proofs.Turn.{run_turn}
 use Rattle.predictor.proofs.forward.store_left.Given as goal
 
 abbrev pub invariant-loop-x : goal.invariant-loop-x

@@ -1,30 +1,26 @@
 -- `store_row` meets its contract: row 0 by its own rule, out of the second half of `rows`; another by the blocks of its
 -- row.
-use Rattle.std.proofs.Common.{◌≡◌, ◌+◌, ◌*◌, ◌/◌, ◌^◌, ◌≤◌, length, ◌∙◌, arith, rules}
+use Rattle.std.proofs.Common.{◌≡◌, ◌≤◌, ◌∙◌, arith}
 use Rattle.format.specs.Picture.{pixels}
 use Rattle.pixel.proofs.Blocks.{data_there, data-part}
 use Rattle.pixel.proofs.Part.{pixels_part}
 use Rattle.predictor.proofs.StoredRows.{stored_row}
 use Rattle.predictor.proofs.forward.store_row.Goals as goal
 
-blocks : (c : goal.After-subsample_size-bx)
-    → 4 * (c.args.y / 2 ^ c.args.bits * c.subsample_size-bx.result) + 4 * c.subsample_size-bx.result ≤ length c.args.blocks.now
-blocks c = let p = c.requires in data_there _ _ _ _ _ p.0.1 p.0.2 _ c.subsample_size-bx.ensures
-
 pub overflow_mul-from : goal.overflow_mul-from
-overflow_mul-from c = omega (arith, blocks c)
+overflow_mul-from c = omega (arith, data_there _ _ _ _ _ c.requires.sized.1 c.requires.sized.2 _ c.subsample_size-bx.ensures)
 
 pub overflow_mul-from-else-y-eq0 : goal.overflow_mul-from-else-y-eq0
-overflow_mul-from-else-y-eq0 c = omega (arith, blocks c)
+overflow_mul-from-else-y-eq0 c = omega (arith, data_there _ _ _ _ _ c.requires.sized.1 c.requires.sized.2 _ c.subsample_size-bx.ensures)
 
 pub overflow_mul-to : goal.overflow_mul-to
-overflow_mul-to c = omega (arith, blocks c)
+overflow_mul-to c = omega (arith, data_there _ _ _ _ _ c.requires.sized.1 c.requires.sized.2 _ c.subsample_size-bx.ensures)
 
 pub overflow_add-to : goal.overflow_add-to
-overflow_add-to c = omega (arith, blocks c)
+overflow_add-to c = omega (arith, data_there _ _ _ _ _ c.requires.sized.1 c.requires.sized.2 _ c.subsample_size-bx.ensures)
 
 pub slice_bounds-store_row-end : goal.slice_bounds-store_row-end
-slice_bounds-store_row-end c = omega (arith, blocks c)
+slice_bounds-store_row-end c = omega (arith, data_there _ _ _ _ _ c.requires.sized.1 c.requires.sized.2 _ c.subsample_size-bx.ensures)
 
 pub returns-then-y-eq0 : goal.returns-then-y-eq0
 returns-then-y-eq0 c =

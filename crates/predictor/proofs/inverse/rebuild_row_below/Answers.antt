@@ -1,45 +1,36 @@
 -- `rebuild_row_below` meets its contract: the part that is lent holds rows y - 1 and y, and the row rebuilt in it is
 -- row y of the picture rebuilt.
-use Rattle.std.proofs.Common.{◌≡◌, ◌+◌, ◌-◌, ◌*◌, ◌/◌, ◌^◌, ◌≤◌, length, arith, rules}
+use Rattle.std.proofs.Common.{◌≡◌, ◌+◌, ◌-◌, ◌*◌, arith}
 use Rattle.pixel.proofs.Blocks.{data_there}
 use Rattle.predictor.proofs.Rows.{pair_there, row_back}
 use Rattle.predictor.proofs.inverse.rebuild_row_below.Goals as goal
 
-pair : (s : goal.Start) → (s.args.y - 1) * s.args.width + 2 * s.args.width ≤ s.args.height * s.args.width
-pair s = pair_there _ _ _ s.requires.le_y.0 s.requires.le_y.1
-
-blocks : (c : goal.After-subsample_size-bx)
-    → 4 * (c.args.y / 2 ^ c.args.bits * c.subsample_size-bx.result) + 4 * c.subsample_size-bx.result ≤ length c.args.blocks.now
-blocks c =
-    let p = c.requires in
-    data_there _ _ _ _ _ p.1.1.0 p.1.1.1.1 _ c.subsample_size-bx.ensures
-
 pub overflow_mul-a : goal.overflow_mul-a
-overflow_mul-a c = omega (arith, pair c)
+overflow_mul-a c = omega (arith, pair_there c.args.width _ _ c.requires.le_y.0 c.requires.le_y.1)
 
 pub overflow_mul-a-2 : goal.overflow_mul-a-2
-overflow_mul-a-2 c = omega (arith, pair c)
+overflow_mul-a-2 c = omega (arith, pair_there c.args.width _ _ c.requires.le_y.0 c.requires.le_y.1)
 
 pub overflow_add-b : goal.overflow_add-b
-overflow_add-b c = omega (arith, pair c)
+overflow_add-b c = omega (arith, pair_there c.args.width _ _ c.requires.le_y.0 c.requires.le_y.1)
 
 pub overflow_mul-from : goal.overflow_mul-from
-overflow_mul-from c = omega (arith, blocks c)
+overflow_mul-from c = omega (arith, data_there _ _ _ _ _ c.requires.blocked c.requires.le_y.1 _ c.subsample_size-bx.ensures)
 
 pub overflow_mul-from-2 : goal.overflow_mul-from-2
-overflow_mul-from-2 c = omega (arith, blocks c)
+overflow_mul-from-2 c = omega (arith, data_there _ _ _ _ _ c.requires.blocked c.requires.le_y.1 _ c.subsample_size-bx.ensures)
 
 pub overflow_mul-to : goal.overflow_mul-to
-overflow_mul-to c = omega (arith, blocks c)
+overflow_mul-to c = omega (arith, data_there _ _ _ _ _ c.requires.blocked c.requires.le_y.1 _ c.subsample_size-bx.ensures)
 
 pub overflow_add-to : goal.overflow_add-to
-overflow_add-to c = omega (arith, blocks c)
+overflow_add-to c = omega (arith, data_there _ _ _ _ _ c.requires.blocked c.requires.le_y.1 _ c.subsample_size-bx.ensures)
 
 pub slice_bounds-rebuild_row-end : goal.slice_bounds-rebuild_row-end
-slice_bounds-rebuild_row-end c = omega (arith, pair c)
+slice_bounds-rebuild_row-end c = omega (arith, pair_there c.args.width _ _ c.requires.le_y.0 c.requires.le_y.1)
 
 pub slice_bounds-rebuild_row-end-2 : goal.slice_bounds-rebuild_row-end-2
-slice_bounds-rebuild_row-end-2 c = omega (arith, blocks c)
+slice_bounds-rebuild_row-end-2 c = omega (arith, data_there _ _ _ _ _ c.requires.blocked c.requires.le_y.1 _ c.subsample_size-bx.ensures)
 
 pub returns : goal.returns
 returns c =

@@ -1,11 +1,9 @@
 -- `apply_predictor_transform_1` meets its contract: before each turn the pixels that the eights left are rebuilt up to
 -- i, and `left` is the last of them.
-use Rattle.std.proofs.Common.{◌≡◌, ◌-◌, ◌≤◌, length, refl, ◌∙◌, arith, rules}
+use Rattle.std.proofs.Common.{◌≡◌, ◌-◌, ◌≤◌, length}
 use Rattle.format.specs.Picture.{pixels}
 use Rattle.pixel.specs.Cells.{pixel_cells, run}
-use Rattle.pixel.proofs.Cells.{run_done, run_next, run_none}
 use Rattle.predictor.specs.Row.{around, gains}
-use Rattle.predictor.proofs.Turn.{left_next, run_turn}
 use Rattle.predictor.proofs.left.apply_predictor_transform_1.Given as goal
 
 abbrev pub invariant-loop-i : goal.invariant-loop-i

@@ -1,5 +1,4 @@
 -- `first_eight` meets its contract: the pixel before the first serves as the four before it.
-use Rattle.std.proofs.Common.{rules}
 use Rattle.predictor.proofs.left.first_eight.Goals as goal
 
 pub returns : goal.returns

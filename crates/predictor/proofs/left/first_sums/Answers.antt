@@ -1,5 +1,4 @@
 -- `first_sums` meets its contract: the pixel before the first serves as both pixels before the four.
-use Rattle.std.proofs.Common.{rules}
 use Rattle.predictor.proofs.Ahead.{ahead_first}
 use Rattle.predictor.proofs.left.first_sums.Goals as goal
 

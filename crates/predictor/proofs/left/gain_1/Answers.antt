@@ -1,6 +1,5 @@
 -- `gain_1` meets its contract: its prediction is line 1 of the table of modes.
 use Rattle.format.specs.Predictor.{predict}
-use Rattle.std.proofs.Common.{rules}
 use Rattle.predictor.proofs.left.gain_1.Goals as goal
 
 pub returns : goal.returns

@@ -1,5 +1,5 @@
 -- `gain_eight` meets its contract: four pixels, whose run leaves the sums of the next four, and four more.
-use Rattle.std.proofs.Common.{arith, rules}
+use Rattle.std.proofs.Common.{arith}
 use Rattle.predictor.proofs.Ahead.{ahead_next, eight_next}
 use Rattle.predictor.proofs.left.gain_eight.Goals as goal
 
@@ -15,4 +15,5 @@ pub returns : goal.returns
 returns c =
     let g = c.gain_four-between.ensures in
     let h = c.gain_four-before.ensures in
-    eight_next _ _ _ _ _ _ c.requires.i_in_bounds g.0 h.0 h.1 h.2 c.sums_at-sums.ensures c.sums_at-more.ensures
+    let e = eight_next _ _ _ _ _ _ c.requires.i_in_bounds g.0 h.0 h.1 h.2 c.sums_at-sums.ensures c.sums_at-more.ensures in
+    record { rows_after = e.0; prepared_2 = e.1 }

@@ -1,11 +1,7 @@
 -- `gain_eights` meets its contract: before each turn the pixels up to i are rebuilt, and what eight from i gain is
 -- prepared.
-use Rattle.std.proofs.Common.{◌≡◌, ◌+◌, ◌-◌, ◌≤◌, length, refl, ◌∙◌, arith, rules}
-use Rattle.format.specs.Picture.{pixels}
-use Rattle.pixel.specs.Cells.{pixel_cells, run}
+use Rattle.std.proofs.Common.{refl, ◌∙◌, arith}
 use Rattle.pixel.proofs.Cells.{run_none}
-use Rattle.predictor.specs.Row.{around, gains}
-use Rattle.predictor.specs.Ahead.{Prepared}
 use Rattle.predictor.proofs.Ahead.{eight_more}
 use Rattle.predictor.proofs.left.gain_eights.Goals as goal
 
@@ -20,9 +16,6 @@ loop-i-init c = (omega arith, omega arith, refl, run_none _ _ _ _, c.first_eight
 
 pub gain_eight-eight-requires : goal.gain_eight-eight-requires
 gain_eight-eight-requires c = record { i_in_bounds = omega arith; prepared = c.loop-i.invariant.4 }
-
-pub overflow_add-i-in-loop-i : goal.overflow_add-i-in-loop-i
-overflow_add-i-in-loop-i c = omega (arith, c.well-formed)
 
 pub loop-i-preserved : goal.loop-i-preserved
 loop-i-preserved c =

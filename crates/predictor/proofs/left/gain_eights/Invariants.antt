@@ -1,12 +1,10 @@
 -- `gain_eights` meets its contract: before each turn the pixels up to i are rebuilt, and what eight from i gain is
 -- prepared.
-use Rattle.std.proofs.Common.{◌≡◌, ◌+◌, ◌-◌, ◌≤◌, length, refl, ◌∙◌, arith, rules}
+use Rattle.std.proofs.Common.{◌≡◌, ◌+◌, ◌-◌, ◌≤◌, length}
 use Rattle.format.specs.Picture.{pixels}
 use Rattle.pixel.specs.Cells.{pixel_cells, run}
-use Rattle.pixel.proofs.Cells.{run_none}
 use Rattle.predictor.specs.Row.{around, gains}
 use Rattle.predictor.specs.Ahead.{Prepared}
-use Rattle.predictor.proofs.Ahead.{eight_more}
 use Rattle.predictor.proofs.left.gain_eights.Given as goal
 
 abbrev pub invariant-loop-i : goal.invariant-loop-i

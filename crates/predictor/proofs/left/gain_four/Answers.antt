@@ -1,5 +1,5 @@
 -- `gain_four` meets its contract: four puts are four turns of the loop that goes pixel by pixel.
-use Rattle.std.proofs.Common.{◌∙◌, rules}
+use Rattle.std.proofs.Common.{◌∙◌}
 use Rattle.predictor.proofs.Ahead.{four_gained}
 use Rattle.predictor.proofs.left.gain_four.Goals as goal
 

@@ -1,5 +1,5 @@
 -- `sum_at` meets its contract: a pixel and the one before it.
-use Rattle.std.proofs.Common.{◌∙◌, rules}
+use Rattle.std.proofs.Common.{◌∙◌}
 use Rattle.predictor.proofs.left.sum_at.Goals as goal
 
 pub returns : goal.returns

@@ -1,104 +1,65 @@
 -- `predict_byte` meets its contract: each arm is its line of the table of modes.
-use Rattle.std.proofs.Common.{sym, rules}
+use Rattle.std.proofs.Common.{sym, arith}
 use Rattle.predictor.specs.Bytewise.{predict_byte}
-use Rattle.format.proofs.Modes.{past_13}
 use Rattle.predictor.proofs.Residuals.{byte_over_13}
 use Rattle.predictor.proofs.residual.predict_byte.Goals as goal
 
-pub average2-requires : goal.average2-requires
-unfolding predict_byte
-average2-requires c = search rules
-
-pub average2-requires-in-5 : goal.average2-requires-in-5
-unfolding predict_byte
-average2-requires-in-5 c = search rules
-
-pub average2-requires-in-6 : goal.average2-requires-in-6
-unfolding predict_byte
-average2-requires-in-6 c = search rules
-
-pub average2-requires-in-7 : goal.average2-requires-in-7
-unfolding predict_byte
-average2-requires-in-7 c = search rules
-
-pub average2-requires-in-8 : goal.average2-requires-in-8
-unfolding predict_byte
-average2-requires-in-8 c = search rules
-
-pub average2-requires-in-9 : goal.average2-requires-in-9
-unfolding predict_byte
-average2-requires-in-9 c = search rules
-
-pub average4-requires : goal.average4-requires
-unfolding predict_byte
-average4-requires c = search rules
-
-pub clamp_add_subtract_full-requires : goal.clamp_add_subtract_full-requires
-unfolding predict_byte
-clamp_add_subtract_full-requires c = search rules
-
-pub clamp_add_subtract_half-requires : goal.clamp_add_subtract_half-requires
-unfolding predict_byte
-clamp_add_subtract_half-requires c = search rules
-
 pub returns-in-0 : goal.returns-in-0
 unfolding predict_byte
-returns-in-0 c = rw c.in-0.keys1
+returns-in-0 c = rw c.in-0.is
 
 pub returns-in-1 : goal.returns-in-1
 unfolding predict_byte
-returns-in-1 c = rw c.in-1.keys2
+returns-in-1 c = rw c.in-1.is
 
 pub returns-in-2 : goal.returns-in-2
 unfolding predict_byte
-returns-in-2 c = rw c.in-2.keys3
+returns-in-2 c = rw c.in-2.is
 
 pub returns-in-3 : goal.returns-in-3
 unfolding predict_byte
-returns-in-3 c = rw c.in-3.keys4
+returns-in-3 c = rw c.in-3.is
 
 pub returns-in-4 : goal.returns-in-4
 unfolding predict_byte
-returns-in-4 c = rw c.in-4.keys5
+returns-in-4 c = rw c.in-4.is
 
 pub returns-in-5 : goal.returns-in-5
 unfolding predict_byte
-returns-in-5 c = rw (c.in-5.keys6, c.average2-in-5.ensures, c.average2.ensures)
+returns-in-5 c = rw (c.in-5.is, c.average2-in-5.ensures, c.average2.ensures)
 
 pub returns-in-6 : goal.returns-in-6
 unfolding predict_byte
-returns-in-6 c = rw c.in-6.keys7 c.average2-in-6.ensures
+returns-in-6 c = rw c.in-6.is c.average2-in-6.ensures
 
 pub returns-in-7 : goal.returns-in-7
 unfolding predict_byte
-returns-in-7 c = rw c.in-7.keys8 c.average2-in-7.ensures
+returns-in-7 c = rw c.in-7.is c.average2-in-7.ensures
 
 pub returns-in-8 : goal.returns-in-8
 unfolding predict_byte
-returns-in-8 c = rw c.in-8.keys9 c.average2-in-8.ensures
+returns-in-8 c = rw c.in-8.is c.average2-in-8.ensures
 
 pub returns-in-9 : goal.returns-in-9
 unfolding predict_byte
-returns-in-9 c = rw c.in-9.keys10 c.average2-in-9.ensures
+returns-in-9 c = rw c.in-9.is c.average2-in-9.ensures
 
 pub returns-in-10 : goal.returns-in-10
 unfolding predict_byte
-returns-in-10 c = rw c.in-10.keys11 c.average4.ensures
+returns-in-10 c = rw c.in-10.is c.average4.ensures
 
 pub returns-in-11 : goal.returns-in-11
 unfolding predict_byte
-returns-in-11 c = rw c.in-11.keys12
+returns-in-11 c = rw c.in-11.is
 
 pub returns-in-12 : goal.returns-in-12
 unfolding predict_byte
-returns-in-12 c = rw c.in-12.keys13 c.clamp_add_subtract_full.ensures
+returns-in-12 c = rw c.in-12.is c.clamp_add_subtract_full.ensures
 
 pub returns-in-13 : goal.returns-in-13
 unfolding predict_byte
-returns-in-13 c = rw c.in-13.keys14 c.clamp_add_subtract_half.ensures
+returns-in-13 c = rw c.in-13.is c.clamp_add_subtract_half.ensures
 
 pub returns-in_default : goal.returns-in_default
 unfolding predict_byte
-returns-in_default c =
-    let r = c.in_default.rest in
-    sym (byte_over_13 _ _ _ _ _ (past_13 _ r.0.0.0.0.0.0.0.0.0.0.0.0.0.1 r.0.0.0.0.0.0.0.0.0.0.0.0.1 r.0.0.0.0.0.0.0.0.0.0.0.1 r.0.0.0.0.0.0.0.0.0.0.1 r.0.0.0.0.0.0.0.0.0.1 r.0.0.0.0.0.0.0.0.1 r.0.0.0.0.0.0.0.1 r.0.0.0.0.0.0.1 r.0.0.0.0.0.1 r.0.0.0.0.1 r.0.0.0.1 r.0.0.1 r.0.1 r.1))
+returns-in_default c = let a = c.args in sym (byte_over_13 a.mode a.l a.t a.tr a.tl (omega arith))

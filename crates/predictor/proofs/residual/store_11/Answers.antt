@@ -1,9 +1,7 @@
 -- `store_11` meets its contract: before each turn the columns up to x are stored.
-use Rattle.std.proofs.Common.{◌≡◌, ◌-◌, ◌≤◌, length, refl, ◌∙◌, arith, rules}
-use Rattle.format.specs.Picture.{pixels}
-use Rattle.pixel.specs.Cells.{pixel_cells, run, given}
+use Rattle.std.proofs.Common.{refl, ◌∙◌, arith}
+use Rattle.pixel.specs.Cells.{given}
 use Rattle.pixel.proofs.Cells.{run_none, run_done}
-use Rattle.predictor.specs.Row.{around, residual}
 use Rattle.predictor.proofs.Turn.{run_turn}
 use Rattle.predictor.proofs.residual.store_11.Goals as goal
 

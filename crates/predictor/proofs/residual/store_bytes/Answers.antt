@@ -1,9 +1,7 @@
 -- `store_bytes` meets its contract: before each turn the bytes up to i are stored.
-use Rattle.std.proofs.Common.{◌≡◌, ◌-◌, ◌≤◌, length, refl, arith, length-set, rules}
-use Rattle.format.specs.Picture.{byte_at}
-use Rattle.pixel.specs.Cells.{byte_cells, run, given}
+use Rattle.std.proofs.Common.{refl, arith, length-set}
+use Rattle.pixel.specs.Cells.{given}
 use Rattle.pixel.proofs.Cells.{run_none, run_more, run_done}
-use Rattle.predictor.specs.Bytewise.{byte_residual}
 use Rattle.predictor.proofs.residual.store_bytes.Goals as goal
 
 pub loop-i-init : goal.loop-i-init

@@ -1,8 +1,7 @@
 -- `store_bytes` meets its contract: before each turn the bytes up to i are stored.
-use Rattle.std.proofs.Common.{◌≡◌, ◌-◌, ◌≤◌, length, refl, arith, length-set, rules}
+use Rattle.std.proofs.Common.{◌≡◌, ◌-◌, ◌≤◌, length}
 use Rattle.format.specs.Picture.{byte_at}
 use Rattle.pixel.specs.Cells.{byte_cells, run, given}
-use Rattle.pixel.proofs.Cells.{run_none, run_more, run_done}
 use Rattle.predictor.specs.Bytewise.{byte_residual}
 use Rattle.predictor.proofs.residual.store_bytes.Given as goal
 

@@ -1,5 +1,5 @@
 -- `mode_at` meets its contract: column x has its block among the row's.
-use Rattle.std.proofs.Common.{refl, arith, rules}
+use Rattle.std.proofs.Common.{refl, arith}
 use Rattle.format.specs.Picture.{pixels}
 use Rattle.pixel.proofs.Blocks.{block_there}
 use Rattle.predictor.proofs.row.mode_at.Goals as goal

@@ -1,9 +1,6 @@
 -- `rebuild_row` meets its contract: before each turn column 0 and the columns up to x are rebuilt.
-use Rattle.std.proofs.Common.{◌≡◌, ◌+◌, ◌-◌, ◌*◌, ◌≤◌, length, ◌∙◌, arith, rules}
-use Rattle.format.specs.Picture.{pixels}
-use Rattle.pixel.specs.Cells.{pixel_cells, run}
+use Rattle.std.proofs.Common.{◌≡◌, ◌+◌, ◌-◌, ◌∙◌, arith, rules}
 use Rattle.pixel.proofs.Cells.{run_none, run_next}
-use Rattle.predictor.specs.Row.{gains, row_predicted}
 use Rattle.predictor.proofs.Blocks.{run_first}
 use Rattle.predictor.proofs.row.rebuild_row.Goals as goal
 
@@ -17,7 +14,7 @@ loop-x-preserved c =
       search rules,
       search rules,
       search rules,
-      run_next _ _ _ _ _ _ _ _ (omega arith) (omega arith) l.3 b.1,
+      run_next _ _ _ _ _ _ _ _ (omega arith) (omega arith) l.3 b.rows_after,
     )
 
 pub returns : goal.returns

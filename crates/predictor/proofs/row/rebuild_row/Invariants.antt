@@ -1,10 +1,8 @@
 -- `rebuild_row` meets its contract: before each turn column 0 and the columns up to x are rebuilt.
-use Rattle.std.proofs.Common.{◌≡◌, ◌+◌, ◌-◌, ◌*◌, ◌≤◌, length, ◌∙◌, arith, rules}
+use Rattle.std.proofs.Common.{◌≡◌, ◌+◌, ◌-◌, ◌*◌, ◌≤◌, length}
 use Rattle.format.specs.Picture.{pixels}
 use Rattle.pixel.specs.Cells.{pixel_cells, run}
-use Rattle.pixel.proofs.Cells.{run_none, run_next}
 use Rattle.predictor.specs.Row.{gains, row_predicted}
-use Rattle.predictor.proofs.Blocks.{run_first}
 use Rattle.predictor.proofs.row.rebuild_row.Given as goal
 
 abbrev pub invariant-loop-x : goal.invariant-loop-x

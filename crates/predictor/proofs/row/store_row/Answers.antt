@@ -1,10 +1,8 @@
 -- `store_row` meets its contract: before each turn column 0 and the columns up to x are stored.
-use Rattle.std.proofs.Common.{◌≡◌, ◌-◌, ◌*◌, ◌≤◌, length, ◌∙◌, arith, rules}
+use Rattle.std.proofs.Common.{◌≡◌, ◌∙◌, arith, rules}
 use Rattle.format.specs.Picture.{pixels}
-use Rattle.pixel.specs.Cells.{pixel_cells, run, given}
 use Rattle.pixel.proofs.Cells.{run_none, run_next}
 use Rattle.pixel.proofs.Rows.{run_then}
-use Rattle.predictor.specs.Row.{residual, row_predicted}
 use Rattle.predictor.proofs.Blocks.{given_first}
 use Rattle.predictor.proofs.row.store_row.Goals as goal
 
@@ -18,7 +16,7 @@ loop-x-preserved c =
       search rules,
       search rules,
       search rules,
-      run_next _ _ _ _ _ _ _ _ (omega arith) (omega arith) l.3 b.1,
+      run_next _ _ _ _ _ _ _ _ (omega arith) (omega arith) l.3 b.out_after,
     )
 
 pub returns : goal.returns

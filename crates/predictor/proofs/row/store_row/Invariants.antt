@@ -1,11 +1,8 @@
 -- `store_row` meets its contract: before each turn column 0 and the columns up to x are stored.
-use Rattle.std.proofs.Common.{◌≡◌, ◌-◌, ◌*◌, ◌≤◌, length, ◌∙◌, arith, rules}
+use Rattle.std.proofs.Common.{◌≡◌, ◌-◌, ◌*◌, ◌≤◌, length}
 use Rattle.format.specs.Picture.{pixels}
 use Rattle.pixel.specs.Cells.{pixel_cells, run, given}
-use Rattle.pixel.proofs.Cells.{run_none, run_next}
-use Rattle.pixel.proofs.Rows.{run_then}
 use Rattle.predictor.specs.Row.{residual, row_predicted}
-use Rattle.predictor.proofs.Blocks.{given_first}
 use Rattle.predictor.proofs.row.store_row.Given as goal
 
 abbrev pub invariant-loop-x : goal.invariant-loop-x

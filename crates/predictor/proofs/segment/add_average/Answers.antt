@@ -1,9 +1,6 @@
 -- `add_average` meets its contract: before each turn the bytes up to i are rebuilt.
-use Rattle.std.proofs.Common.{◌≡◌, ◌-◌, ◌≤◌, length, refl, arith, length-set, rules}
-use Rattle.format.specs.Byte.{avg}
-use Rattle.pixel.specs.Cells.{byte_cells, run}
+use Rattle.std.proofs.Common.{refl, arith, length-set}
 use Rattle.pixel.proofs.Cells.{run_none, run_more, run_done}
-use Rattle.predictor.specs.Bytewise.{bytewise}
 use Rattle.predictor.proofs.segment.add_average.Goals as goal
 
 pub loop-i-init : goal.loop-i-init

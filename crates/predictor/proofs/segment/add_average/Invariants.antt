@@ -1,8 +1,7 @@
 -- `add_average` meets its contract: before each turn the bytes up to i are rebuilt.
-use Rattle.std.proofs.Common.{◌≡◌, ◌-◌, ◌≤◌, length, refl, arith, length-set, rules}
+use Rattle.std.proofs.Common.{◌≡◌, ◌-◌, ◌≤◌, length}
 use Rattle.format.specs.Byte.{avg}
 use Rattle.pixel.specs.Cells.{byte_cells, run}
-use Rattle.pixel.proofs.Cells.{run_none, run_more, run_done}
 use Rattle.predictor.specs.Bytewise.{bytewise}
 use Rattle.predictor.proofs.segment.add_average.Given as goal
 

@@ -1,7 +1,6 @@
 -- `add_back` meets its contract: before each turn the bytes up to i are rebuilt.
-use Rattle.std.proofs.Common.{◌≡◌, ◌-◌, ◌≤◌, length, refl, arith, length-set, rules}
+use Rattle.std.proofs.Common.{◌≡◌, ◌-◌, ◌≤◌, length}
 use Rattle.pixel.specs.Cells.{byte_cells, run}
-use Rattle.pixel.proofs.Cells.{run_none, run_more, run_done}
 use Rattle.predictor.specs.Bytewise.{first, bytewise}
 use Rattle.predictor.proofs.segment.add_back.Given as goal
 

@@ -1,8 +1,6 @@
 -- `apply_predictor_transform_0` meets its contract: before each turn the pixels up to i are rebuilt.
-use Rattle.std.proofs.Common.{◌≡◌, ◌-◌, ◌≤◌, length, refl, ◌∙◌, arith, rules}
-use Rattle.pixel.specs.Cells.{pixel_cells, run}
+use Rattle.std.proofs.Common.{refl, ◌∙◌, arith}
 use Rattle.pixel.proofs.Cells.{run_none, run_done}
-use Rattle.predictor.specs.Row.{around, gains}
 use Rattle.predictor.proofs.Turn.{run_turn}
 use Rattle.predictor.proofs.segment.apply_predictor_transform_0.Goals as goal
 

@@ -1,9 +1,7 @@
 -- `apply_predictor_transform_0` meets its contract: before each turn the pixels up to i are rebuilt.
-use Rattle.std.proofs.Common.{◌≡◌, ◌-◌, ◌≤◌, length, refl, ◌∙◌, arith, rules}
+use Rattle.std.proofs.Common.{◌≡◌, ◌-◌, ◌≤◌, length}
 use Rattle.pixel.specs.Cells.{pixel_cells, run}
-use Rattle.pixel.proofs.Cells.{run_none, run_done}
 use Rattle.predictor.specs.Row.{around, gains}
-use Rattle.predictor.proofs.Turn.{run_turn}
 use Rattle.predictor.proofs.segment.apply_predictor_transform_0.Given as goal
 
 abbrev pub invariant-loop-i : goal.invariant-loop-i

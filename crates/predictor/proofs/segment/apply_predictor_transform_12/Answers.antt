@@ -1,9 +1,8 @@
 -- `apply_predictor_transform_12` meets its contract: before each turn the pixels up to i are rebuilt, and `left` is the
 -- last of them.
-use Rattle.std.proofs.Common.{◌-◌, refl, arith, rules}
+use Rattle.std.proofs.Common.{refl, arith}
 use Rattle.pixel.proofs.Cells.{run_none, run_done}
-use Rattle.predictor.specs.Row.{around}
-use Rattle.predictor.proofs.Turn.{Carried, carried_next}
+use Rattle.predictor.proofs.Turn.{carried_next}
 use Rattle.predictor.proofs.segment.apply_predictor_transform_12.Goals as goal
 
 pub loop-i-init : goal.loop-i-init

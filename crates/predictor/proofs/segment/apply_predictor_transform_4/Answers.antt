@@ -1,6 +1,6 @@
 -- `apply_predictor_transform_4` meets its contract: a loop over bytes by which each gains the one above and left is the
 -- mode's loop over pixels.
-use Rattle.std.proofs.Common.{◌+◌, arith, rules}
+use Rattle.std.proofs.Common.{◌+◌, arith}
 use Rattle.predictor.specs.Bytewise.{first}
 use Rattle.predictor.proofs.Bytewise.{bytewise_mode, top_left_4}
 use Rattle.predictor.proofs.segment.apply_predictor_transform_4.Goals as goal

@@ -1,9 +1,8 @@
 -- `apply_predictor_transform_7` meets its contract: before each turn the pixels up to i are rebuilt, and `left` is the
 -- last of them.
-use Rattle.std.proofs.Common.{◌-◌, refl, arith, rules}
-use Rattle.pixel.proofs.Cells.{run_none, run_done}
+use Rattle.std.proofs.Common.{◌-◌}
 use Rattle.predictor.specs.Row.{around}
-use Rattle.predictor.proofs.Turn.{Carried, carried_next}
+use Rattle.predictor.proofs.Turn.{Carried}
 use Rattle.predictor.proofs.segment.apply_predictor_transform_7.Given as goal
 
 abbrev pub invariant-loop-i : goal.invariant-loop-i

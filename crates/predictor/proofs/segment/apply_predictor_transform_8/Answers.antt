@@ -1,6 +1,6 @@
 -- `apply_predictor_transform_8` meets its contract: a loop over bytes by which each gains an average is the mode's loop
 -- over pixels.
-use Rattle.std.proofs.Common.{◌+◌, arith, rules}
+use Rattle.std.proofs.Common.{◌+◌, arith}
 use Rattle.format.specs.Byte.{avg}
 use Rattle.predictor.proofs.Bytewise.{bytewise_mode, average_8}
 use Rattle.predictor.proofs.segment.apply_predictor_transform_8.Goals as goal

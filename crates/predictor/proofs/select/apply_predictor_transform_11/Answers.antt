@@ -1,10 +1,7 @@
 -- `apply_predictor_transform_11` meets its contract: before each turn the pixels up to i are rebuilt, `left` is the
 -- last of them, and `near` is the choice for pixel i.
-use Rattle.std.proofs.Common.{◌≡◌, ◌-◌, ◌≤◌, length, refl, ◌∙◌, arith, rules}
-use Rattle.format.specs.Picture.{pixels}
-use Rattle.pixel.specs.Cells.{pixel_cells, run}
+use Rattle.std.proofs.Common.{refl, ◌∙◌, arith}
 use Rattle.pixel.proofs.Cells.{run_none, run_done}
-use Rattle.predictor.specs.Row.{around, gains, left_nearer}
 use Rattle.predictor.proofs.Choice.{nearer_next}
 use Rattle.predictor.proofs.Turn.{left_next, run_turn}
 use Rattle.predictor.proofs.select.apply_predictor_transform_11.Goals as goal
@@ -27,9 +24,9 @@ loop-i-preserved c =
       omega arith,
       omega arith,
       p.auto.xs ∙ l.invariant.2,
-      run_turn _ _ _ _ _ _ _ l.invariant.3 u.0 p.ensures l.invariant.0,
+      run_turn _ _ _ _ _ _ _ l.invariant.3 u.pixel_value p.ensures l.invariant.0,
       left_next _ _ _ _ p.ensures (omega arith),
-      nearer_next _ _ _ _ _ _ p.ensures u.1 (omega arith) (omega arith) (omega arith),
+      nearer_next _ _ _ _ _ _ p.ensures u.near_value (omega arith) (omega arith) (omega arith),
     )
 
 pub returns : goal.returns

@@ -1,12 +1,9 @@
 -- `apply_predictor_transform_11` meets its contract: before each turn the pixels up to i are rebuilt, `left` is the
 -- last of them, and `near` is the choice for pixel i.
-use Rattle.std.proofs.Common.{◌≡◌, ◌-◌, ◌≤◌, length, refl, ◌∙◌, arith, rules}
+use Rattle.std.proofs.Common.{◌≡◌, ◌-◌, ◌≤◌, length}
 use Rattle.format.specs.Picture.{pixels}
 use Rattle.pixel.specs.Cells.{pixel_cells, run}
-use Rattle.pixel.proofs.Cells.{run_none, run_done}
 use Rattle.predictor.specs.Row.{around, gains, left_nearer}
-use Rattle.predictor.proofs.Choice.{nearer_next}
-use Rattle.predictor.proofs.Turn.{left_next, run_turn}
 use Rattle.predictor.proofs.select.apply_predictor_transform_11.Given as goal
 
 abbrev pub invariant-loop-i : goal.invariant-loop-i

@@ -1,0 +1,17 @@
+-- `rebuild` meets its contract: before each turn, undoing the records before k makes of the buffer what the call is to leave.
+use mathlib.Core.Path.{◌≡◌, refl, sym, ◌∙◌}
+use Prim.Native.Nat.{◌≤◌}
+use native.Mathlib.Omega.{arith}
+use borrow.Author.Rules.{rules}
+use lib.ListN.{length}
+use Rattle.format.specs.Chain.{count as recordCount}
+use Rattle.rebuild.proofs.Turns.{Rebuilt, undo_turn, held, undo_done}
+use Rattle.rebuild.proofs.Answers.{counted, refused_chain, refused_short, accepted}
+use Rattle.rebuild.proofs.rebuild.Given as goal
+
+abbrev pub invariant-loop-k : goal.invariant-loop-k
+invariant-loop-k l =
+    (l.k ≤ l.count) × (l.count ≡ recordCount l.chain) × (length l.image ≡ length l.initial.image) × (Rebuilt l.chain l.width l.height l.data l.k l.image ≡ Rebuilt l.chain l.width l.height l.data (recordCount l.chain) l.initial.image)
+
+abbrev pub decreases-loop-k : goal.decreases-loop-k
+decreases-loop-k l = l.k

@@ -1,0 +1,13 @@
+-- `count_each` meets its contract: before each turn the pixels before i are counted.
+use mathlib.Core.Path.{◌≡◌}
+use Prim.Native.Nat.{◌≤◌, ◌-◌}
+use native.Mathlib.Omega.{arith}
+use Rattle.report.specs.Counts.{CountedIn}
+use Rattle.report.proofs.Counts.{counted_room, counted_more, one_same}
+use Rattle.report.proofs.count.count_each.Given as goal
+
+abbrev pub invariant-loop-i : goal.invariant-loop-i
+invariant-loop-i l = (l.from ≤ l.i) × (l.i ≤ l.to) × CountedIn l.size l.colors l.i l.picture l.counts
+
+abbrev pub decreases-loop-i : goal.decreases-loop-i
+decreases-loop-i l = l.to - l.i

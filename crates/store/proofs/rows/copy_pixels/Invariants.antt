@@ -1,0 +1,17 @@
+-- `copy_pixels` meets its contract: before each turn the pixels before i are there.
+use mathlib.Core.Path.{◌≡◌, refl, ◌∙◌}
+use Prim.Native.Nat.{◌≤◌, ◌-◌}
+use native.Mathlib.Omega.{arith}
+use borrow.Author.Rules.{rules}
+use lib.ListN.{length}
+use Rattle.format.specs.Picture.{pixels}
+use Rattle.pixel.specs.Cells.{pixel_cells, run, given}
+use Rattle.pixel.proofs.Given.{given_none, given_next, front_done}
+use Rattle.store.proofs.rows.copy_pixels.Given as goal
+
+abbrev pub invariant-loop-i : goal.invariant-loop-i
+invariant-loop-i l =
+    (l.i ≤ l.count) × (length l.to ≡ length l.initial.to) × (l.to ≡ run pixel_cells (given (pixels l.from)) 0 l.i l.initial.to)
+
+abbrev pub decreases-loop-i : goal.decreases-loop-i
+decreases-loop-i l = l.count - l.i

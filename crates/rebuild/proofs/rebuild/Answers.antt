@@ -11,7 +11,8 @@ use Rattle.rebuild.proofs.rebuild.Goals as goal
 
 pub returns-then-read-ne0 : goal.returns-then-read-ne0
 returns-then-read-ne0 c =
-    refused_chain _ _ _ _ _ _ c.read_chain-read.ensures.refusal (λ z. omega (arith, c.if-read-ne0.true))
+    let r = refused_chain _ _ _ _ _ _ c.read_chain-read.ensures.refusal (λ z. omega (arith, c.if-read-ne0.true)) in
+    record { value = r.0; image_after = r.1 }
 
 pub overflow_mul-height : goal.overflow_mul-height
 overflow_mul-height c =
@@ -23,7 +24,8 @@ overflow_mul-height-2 c =
 
 pub returns-then-image-height : goal.returns-then-image-height
 returns-then-image-height c =
-    refused_short _ _ _ _ _ _ c.read_chain-read.ensures.refusal (omega (arith, c.if-read-ne0.false)) c.if-image-height.true
+    let r = refused_short _ _ _ _ _ _ c.read_chain-read.ensures.refusal c.if-read-ne0.false c.if-image-height.true in
+    record { value = r.0; image_after = r.1 }
 
 pub loop-k-init : goal.loop-k-init
 loop-k-init c =
@@ -46,4 +48,5 @@ loop-k-preserved c =
 pub returns : goal.returns
 returns c =
     let l = c.loop-k.invariant in
-    accepted _ _ _ _ _ _ (sym c.read_chain-read.ensures.refusal ∙ c.if-read-ne0.false) (omega arith) (undo_done _ _ _ _ _ _ _ l.3 (omega arith) (omega arith))
+    let a = accepted _ _ _ _ _ _ (sym c.read_chain-read.ensures.refusal ∙ c.if-read-ne0.false) c.if-image-height.false (undo_done _ _ _ _ _ _ _ l.3 (omega arith) (omega arith)) in
+    record { value = a.0; image_after = a.1 }

@@ -17,7 +17,7 @@ pub returns-then-picture-height : goal.returns-then-picture-height
 returns-then-picture-height c = picture_refused _ _ _ _ _ c.requires.0 c.requires.1.list c.if-picture-height.true
 
 pub count_pixels-counts-requires : goal.count_pixels-counts-requires
-count_pixels-counts-requires c = (c.requires.1.table, (area _ _ c.requires.0, omega (arith, c.if-picture-height.false)))
+count_pixels-counts-requires c = record { table = c.requires.1.table; count_le_most_pixels = (area _ _ c.requires.0, c.if-picture-height.false) }
 
 pub returns : goal.returns
 returns c =

@@ -1,7 +1,6 @@
 -- `report_sized` meets its contract: a list of another length, or with a color twice, is refused by 23.
 use mathlib.Core.Path.{sym, ◌∙◌}
 use borrow.Author.Rules.{rules}
-use borrow.Author.Tests.{not-true, not-false}
 use lib.ListN.{length}
 use Rattle.report.proofs.Answers.{list_sizes, listed, length_refused, color_refused}
 use Rattle.report.proofs.report.report_sized.Goals as goal
@@ -18,7 +17,7 @@ distinct-requires c =
     record { some = l.0; most = l.1; there = l.2; hinted = c.hints_of-hints.ensures }
 
 pub returns-then-not-distinct : goal.returns-then-not-distinct
-returns-then-not-distinct c = color_refused _ _ _ _ _ c.requires (sym c.distinct.ensures ∙ not-true _ c.if-not-distinct.true)
+returns-then-not-distinct c = color_refused _ _ _ _ _ c.requires (sym c.distinct.ensures ∙ c.if-not-distinct.true)
 
 pub report_listed-requires : goal.report_listed-requires
 report_listed-requires c =
@@ -26,7 +25,7 @@ report_listed-requires c =
     let l = list_sizes (length c.args.colors.now) e in (
       c.requires,
       record {
-        list = listed _ e (sym c.distinct.ensures ∙ not-false _ c.if-not-distinct.false);
+        list = listed _ e (sym c.distinct.ensures ∙ c.if-not-distinct.false);
         table = record { some = l.0; most = l.1; there = l.2; hinted = c.hints_of-hints.ensures };
       },
     )

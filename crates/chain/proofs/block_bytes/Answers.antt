@@ -1,5 +1,4 @@
 -- `block_bytes` meets its contract.
-use borrow.Author.Rules.{rules}
 use native.Mathlib.Omega.{arith}
 use Rattle.chain.proofs.Tabled.{blocks_few}
 use Rattle.chain.proofs.block_bytes.Goals as goal

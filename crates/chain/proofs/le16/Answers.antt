@@ -1,7 +1,6 @@
 -- `le16` meets its contract.
 use Prim.Native.Nat.{◌+◌}
 use mathlib.Core.Path.{refl}
-use borrow.Author.Rules.{rules}
 use native.Mathlib.Omega.{arith}
 use Rattle.chain.proofs.le16.Goals as goal
 

@@ -1,5 +1,4 @@
 -- `open` meets its contract, test by test.
-use borrow.Author.Rules.{rules}
 use native.Mathlib.Omega.{arith}
 use Rattle.chain.proofs.Valid.{pixels_few, records_few}
 use Rattle.chain.proofs.Sizes.{not_opened, short_picture, short_strip, opened}

@@ -1,7 +1,6 @@
 -- `read_chain` meets its contract, test by test.
 use mathlib.Core.Path.{sym, ◌∙◌}
 use native.Mathlib.Omega.{arith}
-use borrow.Author.Rules.{rules}
 use Rattle.chain.proofs.Sizes.{refused_as, too_wide, too_tall, part_record, too_many, sized}
 use Rattle.chain.proofs.read_chain.Goals as goal
 

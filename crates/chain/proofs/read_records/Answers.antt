@@ -1,12 +1,9 @@
 -- `read_records` meets its contract: before each turn the records before k are taken, and the current width is theirs.
-use mathlib.Core.Path.{◌≡◌, refl, sym, ◌∙◌}
-use Prim.Native.Nat.{◌≤◌, ◌-◌, ◌/◌}
+use mathlib.Core.Path.{refl, sym, ◌∙◌}
 use native.Mathlib.Omega.{arith}
 use borrow.Author.Rules.{rules}
-use lib.ListN.{length}
 use Rattle.format.specs.Chain.{width_at}
 use Rattle.format.specs.Refusals.{records_refusal}
-use Rattle.chain.specs.Reading.{StepsTo}
 use Rattle.chain.proofs.Records.{turn, record_refused, record_passed, steps_none, steps_more, width_more, width_fits, all_read}
 use Rattle.chain.proofs.Sizes.{refused_as, whole_chain}
 use Rattle.chain.proofs.read_records.Goals as goal

@@ -1,9 +1,7 @@
 -- `used_before` meets its contract: before each turn no record before j has the kind of record k.
-use mathlib.Core.Bool.{true}
-use mathlib.Core.Path.{◌≡◌, refl}
-use Prim.Native.Nat.{◌≤◌, ◌-◌}
+use mathlib.Core.Path.{refl}
 use native.Mathlib.Omega.{arith}
-use Rattle.chain.proofs.Tabled.{Unused, unused_more, unused_not, unused_done}
+use Rattle.chain.proofs.Tabled.{unused_more, unused_not, unused_done}
 use Rattle.chain.proofs.used_before.Goals as goal
 
 pub loop-j-init : goal.loop-j-init

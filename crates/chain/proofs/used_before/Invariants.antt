@@ -1,9 +1,8 @@
 -- `used_before` meets its contract: before each turn no record before j has the kind of record k.
 use mathlib.Core.Bool.{true}
-use mathlib.Core.Path.{◌≡◌, refl}
+use mathlib.Core.Path.{◌≡◌}
 use Prim.Native.Nat.{◌≤◌, ◌-◌}
-use native.Mathlib.Omega.{arith}
-use Rattle.chain.proofs.Tabled.{Unused, unused_more, unused_not, unused_done}
+use Rattle.chain.proofs.Tabled.{Unused}
 use Rattle.chain.proofs.used_before.Given as goal
 
 abbrev pub invariant-loop-j : goal.invariant-loop-j

@@ -1,8 +1,7 @@
 -- `adjust` meets its contract: before each turn the bytes up to i are adjusted.
-use Rattle.std.proofs.Common.{◌≡◌, ◌-◌, ◌≤◌, length, refl, arith, length-set, rules}
-use Rattle.pixel.specs.Cells.{byte_cells, run}
+use Rattle.std.proofs.Common.{refl, arith, length-set}
 use Rattle.pixel.proofs.Cells.{run_none, run_more}
-use Rattle.color_map.proofs.Laws.{gains, adjusted_run}
+use Rattle.color_map.proofs.Laws.{adjusted_run}
 use Rattle.color_map.proofs.adjust.Goals as goal
 
 pub loop-i-init : goal.loop-i-init

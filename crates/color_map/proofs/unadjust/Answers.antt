@@ -1,9 +1,6 @@
 -- `unadjust` meets its contract: before each turn the bytes from i on are unadjusted, and those before i are the first
 -- ones.
-use Rattle.std.proofs.Common.{◌≡◌, ◌-◌, ◌≤◌, length, refl, arith, length-set, rules}
-use Rattle.format.specs.Picture.{byte_at}
-use Rattle.format.specs.ColorMap.{unadjusted}
-use Rattle.pixel.specs.Cells.{byte_cells, run}
+use Rattle.std.proofs.Common.{◌≡◌, refl, arith, length-set}
 use Rattle.pixel.proofs.Cells.{run_none}
 use Rattle.color_map.proofs.Laws.{unadjusted_more, unadjusted_run}
 use Rattle.color_map.proofs.unadjust.Goals as goal

@@ -1,11 +1,9 @@
 -- `unadjust` meets its contract: before each turn the bytes from i on are unadjusted, and those before i are the first
 -- ones.
-use Rattle.std.proofs.Common.{◌≡◌, ◌-◌, ◌≤◌, length, refl, arith, length-set, rules}
+use Rattle.std.proofs.Common.{◌≡◌, ◌-◌, ◌≤◌, length}
 use Rattle.format.specs.Picture.{byte_at}
 use Rattle.format.specs.ColorMap.{unadjusted}
 use Rattle.pixel.specs.Cells.{byte_cells, run}
-use Rattle.pixel.proofs.Cells.{run_none}
-use Rattle.color_map.proofs.Laws.{unadjusted_more, unadjusted_run}
 use Rattle.color_map.proofs.unadjust.Given as goal
 
 abbrev pub invariant-loop-i : goal.invariant-loop-i

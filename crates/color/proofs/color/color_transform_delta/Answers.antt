@@ -1,5 +1,5 @@
 -- `color_transform_delta` meets its contract: the delta by an unsigned factor was tested for all pairs of bytes.
-use Rattle.std.proofs.Common.{◌+◌, ◌*◌, ◌%◌, ◌≤◌, arith, rules}
+use Rattle.std.proofs.Common.{◌+◌, ◌*◌, ◌%◌, ◌≤◌, arith}
 use Rattle.color.proofs.Delta.{delta-by, product}
 use Rattle.color.proofs.color.color_transform_delta.Goals as goal
 

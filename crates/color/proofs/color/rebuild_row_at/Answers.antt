@@ -1,5 +1,5 @@
 -- `rebuild_row_at` meets its contract: the row that is lent has the pixels from y * width on.
-use Rattle.std.proofs.Common.{◌+◌, ◌*◌, ◌/◌, ◌^◌, ◌≤◌, length, arith, rules}
+use Rattle.std.proofs.Common.{◌+◌, ◌*◌, ◌/◌, ◌^◌, ◌≤◌, length, arith}
 use Rattle.format.specs.Color.{inverse_color}
 use Rattle.pixel.proofs.Blocks.{row_there, data_there}
 use Rattle.color.proofs.Blocks.{row_blocks}

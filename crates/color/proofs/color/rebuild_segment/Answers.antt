@@ -1,8 +1,7 @@
 -- `rebuild_segment` meets its contract: before each turn the pixels up to i are rebuilt, by whatever data pixel has
 -- these factors.
-use Rattle.std.proofs.Common.{◌≡◌, ◌-◌, ◌≤◌, length, refl, ◌∙◌, arith, rules}
-use Rattle.format.specs.Color.{inverse_color}
-use Rattle.color.proofs.Blocks.{Made, made_none, made_turn, made_all}
+use Rattle.std.proofs.Common.{refl, ◌∙◌, arith}
+use Rattle.color.proofs.Blocks.{made_none, made_turn, made_all}
 use Rattle.color.proofs.color.rebuild_segment.Goals as goal
 
 pub loop-i-init : goal.loop-i-init

@@ -1,8 +1,8 @@
 -- `rebuild_segment` meets its contract: before each turn the pixels up to i are rebuilt, by whatever data pixel has
 -- these factors.
-use Rattle.std.proofs.Common.{◌≡◌, ◌-◌, ◌≤◌, length, refl, ◌∙◌, arith, rules}
+use Rattle.std.proofs.Common.{◌≡◌, ◌-◌, ◌≤◌, length}
 use Rattle.format.specs.Color.{inverse_color}
-use Rattle.color.proofs.Blocks.{Made, made_none, made_turn, made_all}
+use Rattle.color.proofs.Blocks.{Made}
 use Rattle.color.proofs.color.rebuild_segment.Given as goal
 
 abbrev pub invariant-loop-i : goal.invariant-loop-i

@@ -1,8 +1,8 @@
 -- `store_segment` meets its contract: before each turn the pixels up to i are stored, by whatever data pixel has these
 -- factors.
-use Rattle.std.proofs.Common.{◌≡◌, ◌-◌, ◌≤◌, length, refl, ◌∙◌, arith, rules}
+use Rattle.std.proofs.Common.{◌≡◌, ◌-◌, ◌≤◌, length}
 use Rattle.format.specs.Color.{transform_color}
-use Rattle.color.proofs.Blocks.{Made, made_none, made_turn, made_all}
+use Rattle.color.proofs.Blocks.{Made}
 use Rattle.color.proofs.color.store_segment.Given as goal
 
 abbrev pub invariant-loop-i : goal.invariant-loop-i

@@ -1,10 +1,7 @@
 -- `store_segments` meets its contract: before each turn the columns before x are stored, and a turn takes them to the
 -- end of a block.
-use Rattle.std.proofs.Common.{◌≡◌, ◌-◌, ◌≤◌, length, refl, ◌∙◌, arith, rules}
-use Rattle.format.specs.Picture.{pixels}
+use Rattle.std.proofs.Common.{refl, ◌∙◌, arith}
 use Rattle.format.specs.Color.{transform_color}
-use Rattle.pixel.specs.Cells.{pixel_cells, run}
-use Rattle.color.specs.Row.{pointwise, in_row}
 use Rattle.pixel.proofs.Blocks.{block_there}
 use Rattle.color.proofs.Blocks.{block_more}
 use Rattle.pixel.proofs.Rows.{run_zero, run_all}

@@ -1,5 +1,4 @@
 -- `transform_pixel` meets its contract: the three factors are those of the data pixel.
-use Rattle.std.proofs.Common.{rules}
 use Rattle.color.proofs.color.transform_pixel.Goals as goal
 
 pub returns : goal.returns

@@ -1,5 +1,4 @@
 -- `rebuild_pixel` meets its contract: red and blue gain green.
-use Rattle.std.proofs.Common.{rules}
 use Rattle.color.proofs.subtract_green.rebuild_pixel.Goals as goal
 
 pub returns : goal.returns

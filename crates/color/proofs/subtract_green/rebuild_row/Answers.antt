@@ -1,9 +1,7 @@
 -- `rebuild_row` meets its contract: before each turn the pixels before x are rebuilt, and none past the width.
 -- Measure and bounds go by the buffer, so that only the equation says where the row ends.
-use Rattle.std.proofs.Common.{◌≡◌, ◌-◌, length, refl, ◌∙◌, arith, rules}
-use Rattle.format.specs.SubtractGreen.{add_green}
-use Rattle.color.specs.Row.{everywhere}
-use Rattle.color.proofs.Pointwise.{Within, within_none, within_turn, within_done}
+use Rattle.std.proofs.Common.{refl, ◌∙◌, arith}
+use Rattle.color.proofs.Pointwise.{within_none, within_turn, within_done}
 use Rattle.color.proofs.subtract_green.rebuild_row.Goals as goal
 
 pub loop-x-init : goal.loop-x-init

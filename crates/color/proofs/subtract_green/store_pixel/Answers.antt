@@ -1,5 +1,5 @@
 -- `store_pixel` meets its contract: red and blue lose green.
-use Rattle.std.proofs.Common.{arith, rules}
+use Rattle.std.proofs.Common.{arith}
 use Rattle.format.proofs.Byte.{sub_wrapped}
 use Rattle.color.proofs.subtract_green.store_pixel.Goals as goal
 

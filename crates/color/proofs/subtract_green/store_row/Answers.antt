@@ -1,9 +1,8 @@
 -- `store_row` meets its contract: before each turn the pixels up to i are stored.
-use Rattle.std.proofs.Common.{◌≡◌, ◌-◌, ◌≤◌, length, refl, ◌∙◌, arith, rules}
+use Rattle.std.proofs.Common.{refl, ◌∙◌, arith}
 use Rattle.format.specs.SubtractGreen.{subtract_green, green_stored}
-use Rattle.pixel.specs.Cells.{pixel_cells, run}
 use Rattle.pixel.proofs.Cells.{run_none}
-use Rattle.color.specs.Row.{pointwise, everywhere}
+use Rattle.color.specs.Row.{everywhere}
 use Rattle.pixel.proofs.Rows.{run_all}
 use Rattle.color.proofs.Pointwise.{turn, held}
 use Rattle.color.proofs.subtract_green.store_row.Goals as goal

@@ -29,7 +29,7 @@ fn library() -> Result<PathBuf, String> {
         return Ok(archive);
     }
     make(&root)?;
-    found(&archive).ok_or_else(|| format!("`rt staticlib letchwater` made no {ARCHIVE}"))
+    found(&archive).ok_or_else(|| format!("`tools/staticlib` made no {ARCHIVE}"))
 }
 
 fn found(archive: &Path) -> Option<PathBuf> {
@@ -37,21 +37,18 @@ fn found(archive: &Path) -> Option<PathBuf> {
     archive.is_file().then_some(archive)
 }
 
-/// What `rt` prints is taken and not passed on, since Cargo reads this program's output.
+/// What it prints is taken and not passed on, since Cargo reads this program's output.
 fn make(root: &Path) -> Result<(), String> {
-    let run = Command::new("rt")
-        .args(["staticlib", "letchwater"])
-        .current_dir(root)
-        .output();
+    let run = Command::new(root.join("tools/staticlib")).output();
     match run {
         Ok(output) if output.status.success() => Ok(()),
         Ok(output) => Err(format!(
-            "`rt staticlib letchwater` failed with {}: {}",
+            "`tools/staticlib` failed with {}: {}",
             output.status,
             last_line(&output)
         )),
         Err(error) => Err(format!(
-            "{ARCHIVE} is absent and `rt` cannot make it ({error}); \
+            "{ARCHIVE} is absent and `tools/staticlib` cannot make it ({error}); \
              set LETCHWATER_LIB_DIR to a directory that has it"
         )),
     }

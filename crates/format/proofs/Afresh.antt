@@ -3,11 +3,10 @@
 -- differ. ps are the changed pixels.
 use mathlib.Core.Bool.{Bool, true, false, not, ◌&&◌, false≢true}
 use mathlib.Core.List.{List, []}
-use mathlib.Core.Path.{◌≡◌, refl, sym, ap, ◌∙◌}
+use mathlib.Core.Path.{◌≡◌, refl, sym, ◌∙◌}
 use Prim.Native.Nat.{ℕ, ◌<◌}
 use borrow.Author.Tests.{ltb-true, not-true}
 use lib.Dec.{ltb}
-use lib.ListN.{length}
 use Rattle.format.specs.Choice.{if◌then◌else◌}
 use Rattle.format.specs.Indices.{among, how_many}
 use Rattle.format.specs.Pixel.{equal}

@@ -1,6 +1,6 @@
 -- What an item is made of is inside its stage, and every item is looked at by one of its spots. So refusal 22 is exact,
 -- though it looks at the spots of changed pixels alone.
-use mathlib.Core.Bool.{Bool, true, false, not, ◌&&◌, ◌||◌, false≢true, true≢false}
+use mathlib.Core.Bool.{Bool, true, false, not, ◌&&◌, false≢true, true≢false}
 use mathlib.Core.List.Memᴰ
 use mathlib.Core.List.{List, [], ◌∷◌}
 use mathlib.Core.Logic.{⊎_elim}
@@ -12,7 +12,6 @@ use native.Mathlib.Omega.{arith}
 use borrow.Author.Tests.{ltb-true, lt-ltb, eqb-false, not-true}
 use lib.Arith.{digits_lt, digits_div, digits_mod}
 use lib.Dec.{eqb, ltb}
-use lib.ListN.{length}
 use Rattle.format.specs.Choice.{if◌then◌else◌, every}
 use Rattle.format.specs.Indices.{some}
 use Rattle.format.specs.declared.Step.{Step}

@@ -1,9 +1,9 @@
 -- What the promises ask no more than, and admit no more than: a stored pair of more than one row, and numbers that
 -- retouching and reporting do not answer.
-use mathlib.Core.List.{List, [], ◌∷◌, ◌++◌}
-use mathlib.Core.Logic.{◌⊎◌, inl, inr}
-use mathlib.Core.Path.{◌≡◌, refl}
-use Prim.Native.Nat.{ℕ, ◌≤◌}
+use mathlib.Core.List.{◌++◌}
+use mathlib.Core.Logic.{inl, inr}
+use mathlib.Core.Path.{refl}
+use Prim.Native.Nat.{◌≤◌}
 use native.Mathlib.Omega.{arith}
 use Rattle.format.specs.Byte.{delta}
 use Rattle.format.specs.Pixel.{each, each3}
@@ -16,7 +16,6 @@ use Rattle.format.specs.Chain.{record_at, by_kind, narrowed, width_at}
 use Rattle.format.specs.Refusals.{tabled, tabled_length, checked, records_refusal, size_refusal, chain_refusal, input_refusal}
 use Rattle.format.specs.Stages.{forward, backward, stored, rebuilt, takes, accepts}
 use Rattle.format.specs.Calls.{pair_refusal, rebuild_answer, rebuild_image, store_answer, store_strip}
-use Rattle.format.specs.Desk.{Buffers}
 use Rattle.format.specs.Promises.{StoredPair, RetouchNumber, ReportNumber}
 use Rattle.format.proofs.Worked.{blacks, zeros, mode, predictor, bytes}
 

@@ -12,7 +12,7 @@ use lib.Dec.{ltb, lit<}
 use lib.ListN.{length, drop}
 use Rattle.format.specs.Choice.{if◌then◌else◌, every}
 use Rattle.format.specs.Picture.{pixels}
-use Rattle.format.specs.Refusals.{size_refusal, accepted, in_range, ◌unless◌, ◌before◌}
+use Rattle.format.specs.Refusals.{size_refusal, accepted, in_range, ◌unless◌}
 use Rattle.format.specs.Calls.{holds}
 use Rattle.format.specs.Report.{added, counter, written_counters, color_count, counter_count, in_fours, color_list, holds_counters, grown, report_answer, report_counters, Map, map_answer, map_leaves, sum}
 use Rattle.format.specs.Promises.{ReportNumber, of_color, of_none, all_pixels, Reportable}

@@ -1,7 +1,7 @@
 -- Refusal 22 in document 01's words: a record cannot be made exactly if a pixel without entry reaches the table inside
 -- it or, where the table comes before the predictor, inside a packed pixel that its prediction names. Only a table
 -- loses items, and the records after it look at one item each, but for the predictor, which looks at what it names.
-use mathlib.Core.Bool.{Bool, true, false, not, ◌||◌, false≢true, true≢false}
+use mathlib.Core.Bool.{Bool, true, false, not, false≢true, true≢false}
 use mathlib.Core.List.Memᴰ
 use mathlib.Core.List.{List, [], ◌∷◌}
 use mathlib.Core.Logic.{⊎_elim, ◌↔◌}
@@ -9,7 +9,7 @@ use mathlib.Core.Path.{◌≡◌, refl, sym, ap, ◌∙◌, subst}
 use Prim.Native.Nat.{ℕ, zero, suc, ◌+◌, ◌-◌, ◌*◌, ◌/◌, ◌%◌, ◌<◌, ◌≤◌}
 use native.Mathlib.Omega.{arith}
 use borrow.Author.Tests.{ltb-true, ltb-false, ne_eqb, not-true}
-use lib.Dec.{eqb, ltb}
+use lib.Dec.{ltb}
 use Rattle.format.specs.Choice.{if◌then◌else◌}
 use Rattle.format.specs.declared.Pixel.{Pixel}
 use Rattle.format.specs.declared.Step.{Step}
@@ -19,7 +19,7 @@ use Rattle.format.specs.Chain.{narrowed, width_at, step_at, count}
 use Rattle.format.specs.Refusals.{input_refusal}
 use Rattle.format.specs.Stages.{part_of, stored}
 use Rattle.format.specs.Made.{named, columns, made_of, takes_item, missing, lost}
-use Rattle.format.specs.Retouch.{packed_over, place_of}
+use Rattle.format.specs.Retouch.{packed_over}
 use Rattle.format.specs.Calls.{records}
 use Rattle.format.proofs.Choice.{or_left, or_right, or_cases, decide}
 use Rattle.format.proofs.Indices.{In, some_in, in_some}

@@ -1,11 +1,8 @@
 -- `rebuild` meets its contract: before each turn, undoing the records before k makes of the buffer what the call is to leave.
-use mathlib.Core.Path.{◌≡◌, refl, sym, ◌∙◌}
-use Prim.Native.Nat.{◌≤◌}
+use mathlib.Core.Path.{refl, sym, ◌∙◌}
 use native.Mathlib.Omega.{arith}
 use borrow.Author.Rules.{rules}
-use lib.ListN.{length}
-use Rattle.format.specs.Chain.{count as recordCount}
-use Rattle.rebuild.proofs.Turns.{Rebuilt, undo_turn, held, undo_done}
+use Rattle.rebuild.proofs.Turns.{undo_turn, held, undo_done}
 use Rattle.rebuild.proofs.Answers.{counted, refused_chain, refused_short, accepted}
 use Rattle.rebuild.proofs.rebuild.Goals as goal
 

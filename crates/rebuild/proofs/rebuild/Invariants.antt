@@ -1,12 +1,9 @@
 -- `rebuild` meets its contract: before each turn, undoing the records before k makes of the buffer what the call is to leave.
-use mathlib.Core.Path.{◌≡◌, refl, sym, ◌∙◌}
+use mathlib.Core.Path.{◌≡◌}
 use Prim.Native.Nat.{◌≤◌}
-use native.Mathlib.Omega.{arith}
-use borrow.Author.Rules.{rules}
 use lib.ListN.{length}
 use Rattle.format.specs.Chain.{count as recordCount}
-use Rattle.rebuild.proofs.Turns.{Rebuilt, undo_turn, held, undo_done}
-use Rattle.rebuild.proofs.Answers.{counted, refused_chain, refused_short, accepted}
+use Rattle.rebuild.proofs.Turns.{Rebuilt}
 use Rattle.rebuild.proofs.rebuild.Given as goal
 
 abbrev pub invariant-loop-k : goal.invariant-loop-k

@@ -1,10 +1,7 @@
 -- `rebuild_down` meets its contract: before each turn the rows before y are rebuilt.
-use mathlib.Core.Path.{◌≡◌, refl}
-use Prim.Native.Nat.{◌-◌, ◌≤◌}
+use mathlib.Core.Path.{refl}
 use native.Mathlib.Omega.{arith}
 use borrow.Author.Rules.{rules}
-use lib.ListN.{length}
-use Rattle.rebuild.specs.Rows.{rows_rebuilt}
 use Rattle.rebuild.proofs.Rows.{still, none, done, down_turn}
 use Rattle.rebuild.proofs.rebuild_down.Goals as goal
 

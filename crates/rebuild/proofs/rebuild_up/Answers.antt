@@ -1,10 +1,7 @@
 -- `rebuild_up` meets its contract: before each turn the rows from y on are rebuilt, and the rows before them are as they were.
-use mathlib.Core.Path.{◌≡◌, refl}
-use Prim.Native.Nat.{◌-◌, ◌≤◌}
+use mathlib.Core.Path.{refl}
 use native.Mathlib.Omega.{arith}
 use borrow.Author.Rules.{rules}
-use lib.ListN.{length}
-use Rattle.rebuild.specs.Rows.{rows_rebuilt}
 use Rattle.rebuild.proofs.Rows.{still, none, done, up_turn}
 use Rattle.rebuild.proofs.rebuild_up.Goals as goal
 

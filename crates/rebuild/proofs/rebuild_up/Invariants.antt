@@ -1,11 +1,8 @@
 -- `rebuild_up` meets its contract: before each turn the rows from y on are rebuilt, and the rows before them are as they were.
-use mathlib.Core.Path.{◌≡◌, refl}
-use Prim.Native.Nat.{◌-◌, ◌≤◌}
-use native.Mathlib.Omega.{arith}
-use borrow.Author.Rules.{rules}
+use mathlib.Core.Path.{◌≡◌}
+use Prim.Native.Nat.{◌≤◌}
 use lib.ListN.{length}
 use Rattle.rebuild.specs.Rows.{rows_rebuilt}
-use Rattle.rebuild.proofs.Rows.{still, none, done, up_turn}
 use Rattle.rebuild.proofs.rebuild_up.Given as goal
 
 abbrev pub invariant-loop-y : goal.invariant-loop-y

@@ -1,6 +1,5 @@
 -- `undo_step` meets its contract: all rows rebuilt, in either order, are the record undone.
 use mathlib.Core.Path.{◌∙◌}
-use borrow.Author.Rules.{rules}
 use Rattle.rebuild.proofs.Rows.{all_rows}
 use Rattle.rebuild.proofs.undo_step.Goals as goal
 

@@ -1,5 +1,5 @@
 -- `block_end` meets its contract: column x stands before the end of its block.
-use Rattle.std.proofs.Common.{◌≡◌, ℕ, ◌+◌, ◌*◌, ◌/◌, ◌^◌, ◌<◌, ◌≤◌, le_refl, div-mul-le_self, arith, rules}
+use Rattle.std.proofs.Common.{◌≡◌, ℕ, ◌+◌, ◌*◌, ◌/◌, ◌^◌, ◌<◌, ◌≤◌, le_refl, div-mul-le_self, arith}
 use native.Mathlib.Nat.{lt-div-mul-add}
 use Rattle.pixel.proofs.block.block_end.Goals as goal
 

@@ -1,5 +1,5 @@
 -- `side` meets its contract: 2 ^ bits is at most 2 ^ 9, so that the shift loses nothing.
-use Rattle.std.proofs.Common.{◌^◌, ◌<◌, ◌≤◌, refl, mod-eq_of_lt, one-mul, arith, pow_pos, pow_mono, rules}
+use Rattle.std.proofs.Common.{◌^◌, ◌<◌, ◌≤◌, refl, mod-eq_of_lt, one-mul, arith, pow_pos, pow_mono}
 use Rattle.pixel.proofs.block.side.Goals as goal
 
 pub returns : goal.returns

@@ -1,5 +1,4 @@
 -- `subsample_size` meets its contract: a shift is a division by the side.
-use Rattle.std.proofs.Common.{rules}
 use Rattle.pixel.proofs.block.subsample_size.Goals as goal
 
 pub returns : goal.returns

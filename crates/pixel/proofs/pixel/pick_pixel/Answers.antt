@@ -1,5 +1,4 @@
 -- `pick_pixel` meets its contract: a choice in each channel is the choice of the pixel.
-use Rattle.std.proofs.Common.{rules}
 use Rattle.format.proofs.Pixels.{if_channels}
 use Rattle.pixel.proofs.pixel.pick_pixel.Goals as goal
 

@@ -1,5 +1,5 @@
 -- `pixel_at` meets its contract: its four reads are the definition's.
-use Rattle.std.proofs.Common.{refl, rules}
+use Rattle.std.proofs.Common.{refl}
 use Rattle.format.specs.Picture.{pixels}
 use Rattle.pixel.proofs.pixel.pixel_at.Goals as goal
 

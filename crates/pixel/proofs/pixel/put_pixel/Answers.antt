@@ -1,5 +1,5 @@
 -- `put_pixel` meets its contract: its four stores are the definition's.
-use Rattle.std.proofs.Common.{refl, arith, length-set, rules}
+use Rattle.std.proofs.Common.{refl, arith, length-set}
 use Rattle.pixel.specs.Cells.{put_pixel}
 use Rattle.pixel.proofs.pixel.put_pixel.Goals as goal
 

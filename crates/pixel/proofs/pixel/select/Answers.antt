@@ -1,5 +1,5 @@
 -- `select` meets its contract: the test is the definition's, with what both sides share taken off.
-use Rattle.std.proofs.Common.{◌∙◌, rules}
+use Rattle.std.proofs.Common.{◌∙◌}
 use Rattle.pixel.proofs.Distance.{select_between}
 use Rattle.pixel.proofs.pixel.select.Goals as goal
 

@@ -1,5 +1,4 @@
 -- `packed_width` meets its contract.
-use Rattle.std.proofs.Common.{rules}
 use Rattle.pixel.proofs.stride.packed_width.Goals as goal
 
 pub returns : goal.returns

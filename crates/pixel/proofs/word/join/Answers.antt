@@ -1,5 +1,5 @@
 -- `join` meets its contract: each byte is a digit of the sum to the base 256.
-use Rattle.std.proofs.Common.{◌≡◌, ℕ, ◌+◌, ◌*◌, ◌/◌, ◌%◌, ◌<◌, arith, rules}
+use Rattle.std.proofs.Common.{◌≡◌, ℕ, ◌+◌, ◌*◌, ◌/◌, ◌%◌, ◌<◌, arith}
 use Rattle.format.specs.Pixel.{pixel}
 use Rattle.pixel.specs.Word.{unword}
 use Rattle.pixel.proofs.word.join.Goals as goal

@@ -1,5 +1,5 @@
 -- `word_of` meets its contract: what is joined are the pixel's bytes.
-use Rattle.std.proofs.Common.{◌∙◌, rules}
+use Rattle.std.proofs.Common.{◌∙◌}
 use Rattle.pixel.proofs.word.word_of.Goals as goal
 
 pub returns : goal.returns

@@ -1,5 +1,5 @@
 -- `write_pixel` meets its contract: what is split again is the pixel that was joined.
-use Rattle.std.proofs.Common.{◌∙◌, rules}
+use Rattle.std.proofs.Common.{◌∙◌}
 use Rattle.pixel.proofs.word.write_pixel.Goals as goal
 
 pub returns : goal.returns

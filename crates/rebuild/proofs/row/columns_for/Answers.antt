@@ -1,5 +1,4 @@
 -- `columns_for` meets its contract: a table's entries are the record's part of the data.
-use borrow.Author.Rules.{rules}
 use Rattle.chain.proofs.Parts.{part_entries}
 use Rattle.rebuild.proofs.Rows.{columns_part}
 use Rattle.rebuild.proofs.row.columns_for.Goals as goal

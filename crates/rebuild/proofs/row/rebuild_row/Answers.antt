@@ -1,7 +1,6 @@
 -- `rebuild_row` meets its contract, kind by kind: the part of the data that is lent is the record's.
 use mathlib.Core.Path.{◌≡◌}
 use native.Mathlib.Omega.{arith}
-use borrow.Author.Rules.{rules}
 use Rattle.pixel.proofs.Blocks.{row_there}
 use Rattle.chain.proofs.Parts.{part_blocks}
 use Rattle.rebuild.proofs.Rows.{row_0, row_1, as_rule, rule_2, rule_3}

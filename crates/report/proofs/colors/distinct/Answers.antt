@@ -1,10 +1,8 @@
 -- `distinct` meets its contract: before each turn the first k colors are found at their own indices.
 use mathlib.Core.Path.{sym}
-use Prim.Native.Nat.{◌≤◌, ◌-◌}
 use native.Mathlib.Omega.{arith}
-use Rattle.format.specs.Picture.{pixels}
 use Rattle.format.proofs.Report.{own_distinct}
-use Rattle.report.proofs.Own.{Own, own_more, own_not}
+use Rattle.report.proofs.Own.{own_more, own_not}
 use Rattle.report.proofs.colors.distinct.Goals as goal
 
 pub loop-k-init : goal.loop-k-init

@@ -1,8 +1,6 @@
 -- `count_each` meets its contract: before each turn the pixels before i are counted.
 use mathlib.Core.Path.{◌≡◌}
-use Prim.Native.Nat.{◌≤◌, ◌-◌}
 use native.Mathlib.Omega.{arith}
-use Rattle.report.specs.Counts.{CountedIn}
 use Rattle.report.proofs.Counts.{counted_room, counted_more, one_same}
 use Rattle.report.proofs.count.count_each.Goals as goal
 

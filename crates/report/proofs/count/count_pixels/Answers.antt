@@ -1,8 +1,7 @@
 -- `count_pixels` meets its contract: before each turn the pixels before i, which are whole groups, are counted.
 use mathlib.Core.Path.{◌≡◌}
-use Prim.Native.Nat.{◌≤◌, ◌*◌, ◌/◌, ◌%◌, ◌-◌}
+use Prim.Native.Nat.{◌*◌, ◌/◌}
 use native.Mathlib.Omega.{arith}
-use Rattle.report.specs.Counts.{CountedIn}
 use Rattle.report.proofs.count.count_pixels.Goals as goal
 
 pub no_counts-counts-requires : goal.no_counts-counts-requires

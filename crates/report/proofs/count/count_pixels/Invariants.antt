@@ -1,7 +1,6 @@
 -- `count_pixels` meets its contract: before each turn the pixels before i, which are whole groups, are counted.
 use mathlib.Core.Path.{◌≡◌}
-use Prim.Native.Nat.{◌≤◌, ◌*◌, ◌/◌, ◌%◌, ◌-◌}
-use native.Mathlib.Omega.{arith}
+use Prim.Native.Nat.{◌≤◌, ◌%◌, ◌-◌}
 use Rattle.report.specs.Counts.{CountedIn}
 use Rattle.report.proofs.count.count_pixels.Given as goal
 

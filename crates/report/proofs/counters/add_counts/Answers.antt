@@ -1,5 +1,4 @@
 -- `add_counts` meets its contract: what is written are the sums, where they fit.
-use borrow.Author.Rules.{rules}
 use Rattle.report.proofs.Sums.{sums_not, sums_put}
 use Rattle.report.proofs.counters.add_counts.Goals as goal
 

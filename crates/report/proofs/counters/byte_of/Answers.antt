@@ -1,5 +1,4 @@
 -- `byte_of` meets its contract: a shift by 8 j bits divides by 256 to the j.
-use borrow.Author.Rules.{rules}
 use Rattle.report.proofs.Sums.{byte_shift}
 use Rattle.report.proofs.counters.byte_of.Goals as goal
 

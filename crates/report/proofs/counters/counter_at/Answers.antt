@@ -1,6 +1,5 @@
 -- `counter_at` meets its contract: eight bytes are two numbers of 32 bits.
 use native.Mathlib.Omega.{arith}
-use borrow.Author.Rules.{rules}
 use Rattle.format.specs.Report.{counter}
 use Rattle.report.proofs.counters.counter_at.Goals as goal
 

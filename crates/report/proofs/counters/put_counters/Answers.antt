@@ -1,10 +1,7 @@
 -- `put_counters` meets its contract: before each turn the first i bytes are written.
-use mathlib.Core.Path.{◌≡◌, refl}
-use Prim.Native.Nat.{◌≤◌, ◌*◌, ◌-◌}
+use mathlib.Core.Path.{refl}
 use native.Mathlib.Omega.{arith}
-use lib.ListN.{length, length-set}
-use Rattle.format.specs.Picture.{written_bytes}
-use Rattle.format.specs.Report.{counter_byte}
+use lib.ListN.{length-set}
 use Rattle.report.specs.Counts.{at}
 use Rattle.report.proofs.Sums.{bytes_none, bytes_more, bytes_done}
 use Rattle.report.proofs.counters.put_counters.Goals as goal

@@ -1,12 +1,10 @@
 -- `put_counters` meets its contract: before each turn the first i bytes are written.
-use mathlib.Core.Path.{◌≡◌, refl}
+use mathlib.Core.Path.{◌≡◌}
 use Prim.Native.Nat.{◌≤◌, ◌*◌, ◌-◌}
-use native.Mathlib.Omega.{arith}
-use lib.ListN.{length, length-set}
+use lib.ListN.{length}
 use Rattle.format.specs.Picture.{written_bytes}
 use Rattle.format.specs.Report.{counter_byte}
 use Rattle.report.specs.Counts.{at}
-use Rattle.report.proofs.Sums.{bytes_none, bytes_more, bytes_done}
 use Rattle.report.proofs.counters.put_counters.Given as goal
 
 abbrev pub invariant-loop-i : goal.invariant-loop-i

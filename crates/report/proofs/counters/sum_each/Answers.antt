@@ -1,10 +1,7 @@
 -- `sum_each` meets its contract: before each turn the first k counts are sums, and the others are the first ones.
 use mathlib.Core.Path.{refl}
-use Prim.Native.Nat.{◌≤◌, ◌-◌}
 use native.Mathlib.Omega.{arith}
-use borrow.Author.Rules.{rules}
-use Rattle.format.specs.Report.{counter}
-use Rattle.report.proofs.Sums.{Summing, summing_none, summing_more, summing_not, summing_done}
+use Rattle.report.proofs.Sums.{summing_none, summing_more, summing_not, summing_done}
 use Rattle.report.proofs.counters.sum_each.Goals as goal
 
 pub loop-k-init : goal.loop-k-init

@@ -1,6 +1,5 @@
 -- `report` meets its contract: sides out of range are refused by 1.
 use mathlib.Core.Path.{sym, ◌∙◌}
-use borrow.Author.Rules.{rules}
 use Rattle.chain.proofs.Sizes.{sized}
 use Rattle.report.proofs.Answers.{width_refused, height_refused}
 use Rattle.report.proofs.report.report.Goals as goal

@@ -1,6 +1,5 @@
 -- `report_listed` meets its contract: a short buffer is refused by 8, and what is added is what was counted.
 use native.Mathlib.Omega.{arith}
-use borrow.Author.Rules.{rules}
 use Rattle.report.proofs.Answers.{area, counters_refused, picture_refused, counted}
 use Rattle.report.proofs.report.report_listed.Goals as goal
 

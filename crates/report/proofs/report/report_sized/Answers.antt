@@ -1,6 +1,5 @@
 -- `report_sized` meets its contract: a list of another length, or with a color twice, is refused by 23.
 use mathlib.Core.Path.{sym, ◌∙◌}
-use borrow.Author.Rules.{rules}
 use lib.ListN.{length}
 use Rattle.report.proofs.Answers.{list_sizes, listed, length_refused, color_refused}
 use Rattle.report.proofs.report.report_sized.Goals as goal

@@ -32,17 +32,17 @@ pub overflow_add-result-in_default : goal.overflow_add-result-in_default
 overflow_add-result-in_default c = omega (arith, row_small _ c.before-in_default.result c.requires.2 (omega arith))
 
 pub returns-in-0 : goal.returns-in-0
-returns-in-0 c = left_at _ _ _ _ c.in-0.keys1 _ c.before-in-0.ensures
+returns-in-0 c = left_at _ _ _ _ c.in-0.is _ c.before-in-0.ensures
 
 pub returns-in-1 : goal.returns-in-1
-returns-in-1 c = top_at _ _ _ _ c.in-1.keys2 _ c.before-in-1.ensures
+returns-in-1 c = top_at _ _ _ _ c.in-1.is _ c.before-in-1.ensures
 
 pub returns-then-x-w : goal.returns-then-x-w
-returns-then-x-w c = top_right_wraps _ _ _ _ c.in-2.keys3 c.if-x-w.true
+returns-then-x-w c = top_right_wraps _ _ _ _ c.in-2.is c.if-x-w.true
 
 pub returns-else-x-w : goal.returns-else-x-w
-returns-else-x-w c = top_right_at _ _ _ _ c.in-2.keys3 c.if-x-w.false _ c.before-else-x-w.ensures
+returns-else-x-w c = top_right_at _ _ _ _ c.in-2.is c.if-x-w.false _ c.before-else-x-w.ensures
 
 pub returns-in_default : goal.returns-in_default
 returns-in_default c =
-    top_left_at _ _ _ _ (omega (arith, c.in_default.rest.0.0.1, c.in_default.rest.0.1, c.in_default.rest.1)) _ _ c.before-in_default-2.ensures c.before-in_default.ensures
+    top_left_at _ _ _ _ (omega arith) _ _ c.before-in_default-2.ensures c.before-in_default.ensures

@@ -18,10 +18,6 @@ pub returns-then-x-eq0-2 : goal.returns-then-x-eq0-2
 unfolding mode_at
 returns-then-x-eq0-2 c = rw (ne_eqb _ _ c.if-y-eq0.false, eq-eqb _ _ c.if-x-eq0-2.true)
 
-pub block_pixel-e-requires : goal.block_pixel-e-requires
-unfolding mode_at
-block_pixel-e-requires c = search rules
-
 pub returns : goal.returns
 unfolding mode_at
 returns c =

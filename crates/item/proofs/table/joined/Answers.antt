@@ -8,44 +8,32 @@ use Rattle.item.proofs.table.joined.Goals as goal
 
 pub returns-in_default : goal.returns-in_default
 unfolding joined_made when_made
-returns-in_default c = rw c.enum_told-1.given.1
+returns-in_default c = rw c.in_default.is
 
 pub returns-in_default-rest : goal.returns-in_default-rest
 unfolding joined_made when_made
-returns-in_default-rest c = rw (c.first-1.given.1, c.enum_told-in_default-rest-1.given.1)
-
-pub index_of-i-requires : goal.index_of-i-requires
-unfolding joined_made when_made
-index_of-i-requires c = search rules
+returns-in_default-rest c = rw (c.in-Item.is, c.in_default-rest.is)
 
 pub returns-then-s-i : goal.returns-then-s-i
 unfolding joined_made when_made
-returns-then-s-i c = joined_missing _ _ _ _ _ _ _ c.first-1.given.1 c.rest-1.given.1 c.index_of-i.ensures c.if-s-i.true
-
-pub index_range-requires : goal.index_range-requires
-unfolding joined_made when_made
-index_range-requires c = search rules
+returns-then-s-i c = joined_missing _ _ _ _ _ _ _ c.in-Item.is c.in-Item-rest.is c.index_of-i.ensures c.if-s-i.true
 
 pub overflow_mul-byte : goal.overflow_mul-byte
 unfolding joined_made when_made
 overflow_mul-byte c =
-    omega (arith, byte_fits c.args.s.size _ _ _ _ (c.requires.1 _ c.rest-1.given.1) c.index_range.ensures.0 c.if-s-i.false c.index_range.ensures.2)
+    omega (arith, byte_fits c.args.s.size _ _ _ _ (c.requires.1 _ c.in-Item-rest.is) c.index_range.ensures.0 c.if-s-i.false c.index_range.ensures.2)
 
 pub overflow_add-byte : goal.overflow_add-byte
 unfolding joined_made when_made
 overflow_add-byte c =
-    omega (arith, byte_fits c.args.s.size _ _ _ _ (c.requires.1 _ c.rest-1.given.1) c.index_range.ensures.0 c.if-s-i.false c.index_range.ensures.2)
+    omega (arith, byte_fits c.args.s.size _ _ _ _ (c.requires.1 _ c.in-Item-rest.is) c.index_range.ensures.0 c.if-s-i.false c.index_range.ensures.2)
 
 pub overflow_cast-byte-2 : goal.overflow_cast-byte-2
 unfolding joined_made when_made
 overflow_cast-byte-2 c =
-    omega (arith, byte_fits c.args.s.size _ _ _ _ (c.requires.1 _ c.rest-1.given.1) c.index_range.ensures.0 c.if-s-i.false c.index_range.ensures.2)
-
-pub record_of-requires : goal.record_of-requires
-unfolding joined_made when_made
-record_of-requires c = search rules
+    omega (arith, byte_fits c.args.s.size _ _ _ _ (c.requires.1 _ c.in-Item-rest.is) c.index_range.ensures.0 c.if-s-i.false c.index_range.ensures.2)
 
 pub returns : goal.returns
 unfolding joined_made when_made
 returns c =
-    joined_item _ _ _ _ _ _ _ _ _ c.first-1.given.1 c.rest-1.given.1 c.index_of-i.ensures c.if-s-i.false c.index_range.ensures.0 c.record_of.ensures
+    joined_item _ _ _ _ _ _ _ _ _ c.in-Item.is c.in-Item-rest.is c.index_of-i.ensures c.if-s-i.false c.index_range.ensures.0 c.record_of.ensures

@@ -9,30 +9,18 @@ use Rattle.item.proofs.table.repeated.Goals as goal
 
 pub returns-in_default : goal.returns-in_default
 unfolding repeated_made when_made
-returns-in_default c = rw c.enum_told-1.given.1
-
-pub index_of-i-requires : goal.index_of-i-requires
-unfolding repeated_made when_made
-index_of-i-requires c = search rules
+returns-in_default c = rw c.in_default.is
 
 pub returns-then-s-i : goal.returns-then-s-i
 unfolding repeated_made when_made
-returns-then-s-i c = repeated_missing _ _ _ _ _ _ c.made-1.given.1 c.index_of-i.ensures c.if-s-i.true
-
-pub index_range-requires : goal.index_range-requires
-unfolding repeated_made when_made
-index_range-requires c = search rules
+returns-then-s-i c = repeated_missing _ _ _ _ _ _ c.in-Item.is c.index_of-i.ensures c.if-s-i.true
 
 pub repeated_index-requires : goal.repeated_index-requires
 unfolding repeated_made when_made
 repeated_index-requires c =
     let r = c.index_range.ensures in (omega (arith, c.if-s-i.false, r.2), omega (arith, r.4, pow-le-pow_right r.1 c.requires.1))
 
-pub record_of-requires : goal.record_of-requires
-unfolding repeated_made when_made
-record_of-requires c = search rules
-
 pub returns : goal.returns
 unfolding repeated_made when_made
 returns c =
-    repeated_item _ _ _ _ _ _ _ _ _ c.made-1.given.1 c.index_of-i.ensures c.if-s-i.false c.index_range.ensures.0 c.record_of.ensures c.repeated_index.ensures
+    repeated_item _ _ _ _ _ _ _ _ _ c.in-Item.is c.index_of-i.ensures c.if-s-i.false c.index_range.ensures.0 c.record_of.ensures c.repeated_index.ensures

@@ -2,7 +2,6 @@
 use mathlib.Core.Path.{◌≡◌, subst}
 use Prim.Native.Nat.{ℕ, ◌<◌}
 use native.Mathlib.Omega.{arith}
-use borrow.Author.Rules.{rules}
 use Rattle.chain.specs.Valid.{steps_of}
 use Rattle.chain.proofs.Valid.{step_sized}
 use Rattle.store.proofs.Accepting.{accepts_first, accepts_all}
@@ -14,7 +13,10 @@ accept_first-requires c =
     let z = p.storing.0 in
     let l : 0 < c.args.chain.count = omega (arith, c.if-t-chain.true) in
     let k = subst (λ (i : ℕ). (steps_of c.args.chain i).kind ≡ 3) c.if-t-eq0.true (p.table_at.kind c.if-t-chain.true) in
-    record { sized = (step_sized _ _ z.valid 0 l, z.valid.step 0 l, k); holds = (rw (z.valid.width 0 l) z.held, z.found.found 0 l k) }
+    record {
+      sized = (step_sized _ _ z.valid 0 l, z.valid.step 0 l, k);
+      holds = (rw (z.valid.width 0 l) z.held, z.found.found 0 l k);
+    }
 
 pub returns-then-t-eq0 : goal.returns-then-t-eq0
 returns-then-t-eq0 c =

@@ -1,20 +1,13 @@
--- `accept_rows` meets its contract: before each turn the rows before y are have_entries, and the row above is at hand.
+-- `accept_rows` meets its contract: before each turn each pixel of the rows before y has an entry, and the row above is at hand.
 use mathlib.Core.Bool.{true}
-use mathlib.Core.Path.{◌≡◌, sym, ◌∙◌}
+use mathlib.Core.Path.{◌≡◌}
 use Prim.Native.Nat.{◌*◌, ◌-◌, ◌≤◌}
-use native.Mathlib.Omega.{arith}
 use Rattle.format.specs.Picture.{pixels}
 use Rattle.format.specs.ColorTable.{have_entries}
 use Rattle.format.specs.Stages.{part_of}
-use Rattle.chain.specs.Valid.{steps_of, stored_by}
-use Rattle.chain.proofs.Parts.{part_entries}
-use Rattle.chain.proofs.Tabled.{not_taken, not_left}
-use Rattle.chain.proofs.Valid.{step_sized}
+use Rattle.chain.specs.Valid.{stored_by}
 use Rattle.store.specs.Scratch.{Scratch}
 use Rattle.store.specs.Stage.{Above}
-use Rattle.store.proofs.Copied.{scratch_kept, entries_none, entries_more, entries_not}
-use Rattle.store.proofs.Stages.{above_first, above_row}
-use Rattle.store.proofs.Accepting.{first_accepts, table_accepts, table_held, all_rows}
 use Rattle.store.proofs.accept.accept_rows.Given as goal
 
 abbrev pub invariant-loop-y : goal.invariant-loop-y

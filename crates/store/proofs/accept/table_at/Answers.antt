@@ -1,8 +1,6 @@
 -- `table_at` meets its contract: before each turn none of the records before t is a table.
-use Prim.Native.Nat.{◌≤◌, ◌-◌}
 use native.Mathlib.Omega.{arith}
-use Rattle.chain.specs.Valid.{steps_in}
-use Rattle.store.proofs.Tables.{NoneBefore, none_yet, none_more}
+use Rattle.store.proofs.Tables.{none_yet, none_more}
 use Rattle.store.proofs.accept.table_at.Goals as goal
 
 pub loop-t-init : goal.loop-t-init

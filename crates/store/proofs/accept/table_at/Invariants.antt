@@ -1,8 +1,7 @@
 -- `table_at` meets its contract: before each turn none of the records before t is a table.
 use Prim.Native.Nat.{◌≤◌, ◌-◌}
-use native.Mathlib.Omega.{arith}
 use Rattle.chain.specs.Valid.{steps_in}
-use Rattle.store.proofs.Tables.{NoneBefore, none_yet, none_more}
+use Rattle.store.proofs.Tables.{NoneBefore}
 use Rattle.store.proofs.accept.table_at.Given as goal
 
 abbrev pub invariant-loop-t : goal.invariant-loop-t

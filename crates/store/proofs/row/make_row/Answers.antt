@@ -1,10 +1,7 @@
 -- `make_row` meets its contract: before each turn the row is that of stage k.
 use mathlib.Core.Path.{◌≡◌, refl, sym, ◌∙◌}
-use Prim.Native.Nat.{suc, ◌+◌, ◌-◌, ◌≤◌}
+use Prim.Native.Nat.{suc, ◌+◌}
 use native.Mathlib.Omega.{arith}
-use Rattle.format.specs.Picture.{pixels}
-use Rattle.store.specs.Scratch.{Scratch}
-use Rattle.store.specs.Stage.{RowOf, Above}
 use Rattle.store.proofs.Copied.{scratch_kept}
 use Rattle.store.proofs.First.{above_started}
 use Rattle.chain.proofs.Valid.{step_sized}
@@ -31,7 +28,11 @@ advance-requires c =
     let s = p.storing.0 in
     let l = c.loop-k in
     let m = p.storing.1 in
-    record { sized = (step_sized _ _ s.valid l.k (omega arith), s.valid.step l.k (omega arith), p.storing.2); scratch = l.invariant.1; takes = takes_row _ _ s.valid _ m _ _ _ l.k c.args.y s.found p.accepts.0 l.invariant.2 (omega arith) p.storing.2 }
+    record {
+      sized = (step_sized _ _ s.valid l.k (omega arith), s.valid.step l.k (omega arith), p.storing.2);
+      scratch = l.invariant.1;
+      takes = takes_row _ _ s.valid _ m _ _ _ l.k c.args.y s.found p.accepts.0 l.invariant.2 (omega arith) p.storing.2;
+    }
 
 pub overflow_add-k : goal.overflow_add-k
 overflow_add-k c = omega (arith, c.requires.storing.0.valid.few, c.requires.storing.1)

@@ -1,14 +1,8 @@
 -- `make_row` meets its contract: before each turn the row is that of stage k.
-use mathlib.Core.Path.{◌≡◌, refl, sym, ◌∙◌}
-use Prim.Native.Nat.{suc, ◌+◌, ◌-◌, ◌≤◌}
-use native.Mathlib.Omega.{arith}
+use Prim.Native.Nat.{◌-◌, ◌≤◌}
 use Rattle.format.specs.Picture.{pixels}
 use Rattle.store.specs.Scratch.{Scratch}
 use Rattle.store.specs.Stage.{RowOf, Above}
-use Rattle.store.proofs.Copied.{scratch_kept}
-use Rattle.store.proofs.First.{above_started}
-use Rattle.chain.proofs.Valid.{step_sized}
-use Rattle.store.proofs.Stages.{takes_row, row_next, above_next}
 use Rattle.store.proofs.row.make_row.Given as goal
 
 abbrev pub invariant-loop-k : goal.invariant-loop-k

@@ -1,7 +1,6 @@
 -- `pack_first` meets its contract: the part of the picture that is lent is its row.
 use Prim.Native.Nat.{◌+◌, ◌*◌, ◌≤◌}
 use native.Mathlib.Omega.{arith}
-use borrow.Author.Rules.{rules}
 use lib.ListN.{length}
 use Rattle.chain.proofs.Parts.{part_entries}
 use Rattle.format.proofs.ByKind.{narrowed_table}
@@ -40,7 +39,12 @@ pack_row-requires c =
     let t = p.sized.1.table p.sized.2 in
     let e = c.part_of-entries.ensures in
     let f = narrowed_table a.s p.sized.2 in
-    let fits : 4 * (a.y * a.s.width) + 4 * a.s.width ≤ length a.picture.now = omega (arith, row_there a.s.width a.height a.y c.requires.sized.3, c.requires.holds.0) in record { le_size = (t.some, t.most, part_entries _ _ _ p.sized.1 _ e p.sized.2, p.sized.0.wide, p.sized.0.narrow, part_room a.y a.s.width a.picture.now fits, omega (arith, p.holds.1)); hints = rw e p.hints; row_value = rw e (first_entries a.s a.height a.«data».now a.y a.picture.now p.sized.2 fits p.picture_value p.sized.3) }
+    let fits : 4 * (a.y * a.s.width) + 4 * a.s.width ≤ length a.picture.now = omega (arith, row_there a.s.width a.height a.y p.sized.3, p.holds.0) in
+    record {
+      le_size = (t.some, t.most, part_entries _ _ _ p.sized.1 _ e p.sized.2, p.sized.0.wide, p.sized.0.narrow, part_room a.y a.s.width a.picture.now fits, omega (arith, p.holds.1));
+      hints = rw e p.hints;
+      row_value = rw e (first_entries a.s a.height a.«data».now a.y a.picture.now p.sized.2 fits p.picture_value p.sized.3);
+    }
 
 pub shape_of-row : goal.shape_of-row
 shape_of-row c = c.pack_row.auto.out

@@ -1,7 +1,6 @@
 -- `start_row` meets its contract.
 use Prim.Native.Nat.{◌<◌}
 use native.Mathlib.Omega.{arith}
-use borrow.Author.Rules.{rules}
 use Rattle.format.specs.Picture.{pixels}
 use Rattle.pixel.proofs.Blocks.{row_there}
 use Rattle.store.proofs.Copied.{first_row, part_room}
@@ -16,7 +15,12 @@ pack_first-requires c =
     let t = c.table_first.ensures c.if-table_first.true in
     let l : 0 < c.args.chain.count = omega (arith, t.0, p.storing.1) in
     let w = s.valid.width 0 l in
-    record { sized = (step_sized _ _ s.valid 0 l, s.valid.step 0 l, t.1, p.storing.2); holds = (rw w s.held, omega (arith, after_fits _ _ s.valid 1 l, p.accepts.1)); hints = s.found.found 0 l t.1; picture_value = first_takes c.args.chain c.args.«data».now (pixels c.args.picture.now) _ t.0 p.accepts.0 }
+    record {
+      sized = (step_sized _ _ s.valid 0 l, s.valid.step 0 l, t.1, p.storing.2);
+      holds = (rw w s.held, omega (arith, after_fits _ _ s.valid 1 l, p.accepts.1));
+      hints = s.found.found 0 l t.1;
+      picture_value = first_takes c.args.chain c.args.«data».now (pixels c.args.picture.now) _ t.0 p.accepts.0;
+    }
 
 pub returns-then-table_first : goal.returns-then-table_first
 returns-then-table_first c =
@@ -46,9 +50,13 @@ slice_bounds-copy_pixels-end c =
 pub copy_pixels-requires : goal.copy_pixels-requires
 copy_pixels-requires c =
     let a = c.args in
-    (part_room a.y a.chain.width.0 a.picture.now (omega (arith, row_there a.chain.width.0 a.chain.height a.y c.requires.storing.2, c.requires.storing.0.held)), omega (arith, c.requires.storing.0.valid.sized.narrow, c.requires.accepts.1))
+    let p = c.requires in (
+      part_room a.y a.chain.width.0 a.picture.now (omega (arith, row_there a.chain.width.0 a.chain.height a.y p.storing.2, p.storing.0.held)),
+      omega (arith, p.storing.0.valid.sized.narrow, p.accepts.1),
+    )
 
 pub returns : goal.returns
 returns c =
     let a = c.args in
-    started_none _ _ _ _ _ _ (first_row a.chain _ a.y _ _ _ c.copy_pixels.ensures (omega (arith, row_there a.chain.width.0 a.chain.height a.y c.requires.storing.2, c.requires.storing.0.held)))
+    started_none _ _ _ _ _ _
+    (first_row a.chain _ a.y _ _ _ c.copy_pixels.ensures (omega (arith, row_there a.chain.width.0 a.chain.height a.y c.requires.storing.2, c.requires.storing.0.held)))

@@ -1,12 +1,9 @@
 -- `copy_pixels` meets its contract: before each turn the pixels before i are there.
-use mathlib.Core.Path.{◌≡◌, refl, ◌∙◌}
+use mathlib.Core.Path.{◌≡◌}
 use Prim.Native.Nat.{◌≤◌, ◌-◌}
-use native.Mathlib.Omega.{arith}
-use borrow.Author.Rules.{rules}
 use lib.ListN.{length}
 use Rattle.format.specs.Picture.{pixels}
 use Rattle.pixel.specs.Cells.{pixel_cells, run, given}
-use Rattle.pixel.proofs.Given.{given_none, given_next, front_done}
 use Rattle.store.proofs.rows.copy_pixels.Given as goal
 
 abbrev pub invariant-loop-i : goal.invariant-loop-i

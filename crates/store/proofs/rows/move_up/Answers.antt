@@ -1,10 +1,7 @@
 -- `move_up` meets its contract: before each turn the pixels before i have moved, and the others are as they were.
-use mathlib.Core.Path.{◌≡◌, refl, ◌∙◌}
-use Prim.Native.Nat.{◌≤◌, ◌-◌}
+use mathlib.Core.Path.{refl, ◌∙◌}
 use native.Mathlib.Omega.{arith}
-use borrow.Author.Rules.{rules}
-use lib.ListN.{length}
-use Rattle.store.proofs.Moved.{Moved, moved_none, moved_more}
+use Rattle.store.proofs.Moved.{moved_none, moved_more}
 use Rattle.store.proofs.rows.move_up.Goals as goal
 
 pub loop-i-init : goal.loop-i-init

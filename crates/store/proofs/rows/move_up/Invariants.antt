@@ -1,10 +1,8 @@
 -- `move_up` meets its contract: before each turn the pixels before i have moved, and the others are as they were.
-use mathlib.Core.Path.{◌≡◌, refl, ◌∙◌}
+use mathlib.Core.Path.{◌≡◌}
 use Prim.Native.Nat.{◌≤◌, ◌-◌}
-use native.Mathlib.Omega.{arith}
-use borrow.Author.Rules.{rules}
 use lib.ListN.{length}
-use Rattle.store.proofs.Moved.{Moved, moved_none, moved_more}
+use Rattle.store.proofs.Moved.{Moved}
 use Rattle.store.proofs.rows.move_up.Given as goal
 
 abbrev pub invariant-loop-i : goal.invariant-loop-i

@@ -19,7 +19,11 @@ pack_row-requires c =
     let t = p.table_step.0 in
     let e = c.part_of.ensures in
     let f = packed_few c.args.s.size c.args.s.width t.wide t.narrow in
-    record { le_size = (t.some, t.most, entries_there _ _ t _ e, t.wide, t.narrow, omega (arith, t.narrow, p.table_step.1), omega (arith, p.table_step.2)); hints = rw e p.hints; row_value = rw e p.row_value }
+    record {
+      le_size = (t.some, t.most, entries_there _ _ t _ e, t.wide, t.narrow, omega (arith, t.narrow, p.table_step.1), omega (arith, p.table_step.2));
+      hints = rw e p.hints;
+      row_value = rw e p.row_value;
+    }
 
 pub copy_pixels-requires : goal.copy_pixels-requires
 copy_pixels-requires c =

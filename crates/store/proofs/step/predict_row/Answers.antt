@@ -37,7 +37,10 @@ store_row-requires c =
     let n = p.sized.0.narrow in
     let o = p.scratch.one in
     let t = p.scratch.two in
-    record { sized = (p.sized.0, part_blocks _ _ _ p.sized.1 _ c.part_of-modes.ensures (omega (arith, p.sized.2)), p.sized.3); rows_len = (search rules, search rules) }
+    record {
+      sized = (p.sized.0, part_blocks _ _ _ p.sized.1 _ c.part_of-modes.ensures (omega (arith, p.sized.2)), p.sized.3);
+      rows_len = (search rules, search rules);
+    }
 
 pub move_up-requires : goal.move_up-requires
 move_up-requires c = omega (arith, c.requires.sized.0.narrow, c.requires.scratch.two)

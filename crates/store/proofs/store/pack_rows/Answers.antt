@@ -1,12 +1,10 @@
 -- `pack_rows` meets its contract: before each turn the rows before y are packed.
 use mathlib.Core.Path.{◌≡◌, refl, sym, ◌∙◌}
-use Prim.Native.Nat.{◌+◌, ◌*◌, ◌-◌, ◌<◌, ◌≤◌}
+use Prim.Native.Nat.{◌+◌, ◌*◌, ◌<◌, ◌≤◌}
 use native.Mathlib.Omega.{arith}
-use borrow.Author.Rules.{rules}
 use lib.ListN.{length}
 use Rattle.format.specs.Picture.{pixels}
 use Rattle.format.specs.Stages.{forward}
-use Rattle.pixel.specs.Cells.{pixel_cells, run, given}
 use Rattle.pixel.proofs.Blocks.{row_there}
 use Rattle.pixel.proofs.Given.{front_done}
 use Rattle.pixel.proofs.Rows.{no_rows, row_more}
@@ -46,8 +44,15 @@ pack_first-requires c =
     let l = c.loop-y in
     let z = p.storing.0 in
     let i : 0 < a.chain.count = omega (arith, p.storing.1.one) in
-    let r : 4 * (l.y * a.chain.strip.0) + 4 * a.chain.strip.0 ≤ length l.strip = omega (arith, row_there c.args.chain.strip.0 c.args.chain.height c.loop-y.y c.loop-y-test.true, c.requires.holds_strip.0, c.loop-y.invariant.1) in
-    let e = alone_width a.chain a.«data».now (pixels a.picture.now) p.storing.1 z.valid in record { sized = (step_sized _ _ z.valid 0 i, z.valid.step 0 i, p.storing.1.kind, c.loop-y-test.true); holds = (rw (z.valid.width 0 i) z.held, omega (arith, part_room l.y a.chain.strip.0 l.strip r)); hints = z.found.found 0 i p.storing.1.kind; picture_value = sym (alone_accepts _ _ _ p.storing.1) ∙ p.holds_strip.1 }
+    let r : 4 * (l.y * a.chain.strip.0) + 4 * a.chain.strip.0 ≤ length l.strip =
+    omega (arith, row_there a.chain.strip.0 a.chain.height l.y c.loop-y-test.true, c.requires.holds_strip.0, l.invariant.1) in
+    let e = alone_width a.chain a.«data».now (pixels a.picture.now) p.storing.1 z.valid in
+    record {
+      sized = (step_sized _ _ z.valid 0 i, z.valid.step 0 i, p.storing.1.kind, c.loop-y-test.true);
+      holds = (rw (z.valid.width 0 i) z.held, omega (arith, part_room l.y a.chain.strip.0 l.strip r));
+      hints = z.found.found 0 i p.storing.1.kind;
+      picture_value = sym (alone_accepts _ _ _ p.storing.1) ∙ p.holds_strip.1;
+    }
 
 pub overflow_add-y : goal.overflow_add-y
 overflow_add-y c = omega (arith, c.requires.storing.0.valid.sized.low, c.loop-y-test.true)
@@ -60,14 +65,15 @@ loop-y-preserved c =
     let p = c.requires in
     let a = c.args in
     let l = c.loop-y in
-    let r : 4 * (l.y * a.chain.strip.0) + 4 * a.chain.strip.0 ≤ length l.strip = omega (arith, row_there c.args.chain.strip.0 c.args.chain.height c.loop-y.y c.loop-y-test.true, c.requires.holds_strip.0, c.loop-y.invariant.1) in
+    let r : 4 * (l.y * a.chain.strip.0) + 4 * a.chain.strip.0 ≤ length l.strip =
+    omega (arith, row_there a.chain.strip.0 a.chain.height l.y c.loop-y-test.true, c.requires.holds_strip.0, l.invariant.1) in
     let e = alone_width a.chain a.«data».now (pixels a.picture.now) p.storing.1 p.storing.0.valid in
     let h = rw (sym e) at c.pack_first.ensures in
     let k = c.pack_first.auto.row in (
       omega (arith, c.loop-y-test.true),
-      strip_length l.y a.chain.strip.0 l.strip c.pack_first.new.1.1.1.1.1.0 k r ∙ l.invariant.1,
+      strip_length l.y a.chain.strip.0 l.strip c.pack_first.new.row k r ∙ l.invariant.1,
       row_more _ l.y a.chain.strip.0 _ _ _ l.invariant.2
-          (row_in_strip (forward (steps_of a.chain 0) a.«data».now (pixels a.picture.now)) l.y a.chain.strip.0 l.strip c.pack_first.new.1.1.1.1.1.0 h k r),
+          (row_in_strip (forward (steps_of a.chain 0) a.«data».now (pixels a.picture.now)) l.y a.chain.strip.0 l.strip c.pack_first.new.row h k r),
     )
 
 pub shape_of-strip : goal.shape_of-strip

@@ -1,19 +1,11 @@
 -- `pack_rows` meets its contract: before each turn the rows before y are packed.
-use mathlib.Core.Path.{◌≡◌, refl, sym, ◌∙◌}
-use Prim.Native.Nat.{◌+◌, ◌*◌, ◌-◌, ◌<◌, ◌≤◌}
-use native.Mathlib.Omega.{arith}
-use borrow.Author.Rules.{rules}
+use mathlib.Core.Path.{◌≡◌}
+use Prim.Native.Nat.{◌*◌, ◌-◌, ◌≤◌}
 use lib.ListN.{length}
 use Rattle.format.specs.Picture.{pixels}
 use Rattle.format.specs.Stages.{forward}
 use Rattle.pixel.specs.Cells.{pixel_cells, run, given}
-use Rattle.pixel.proofs.Blocks.{row_there}
-use Rattle.pixel.proofs.Given.{front_done}
-use Rattle.pixel.proofs.Rows.{no_rows, row_more}
 use Rattle.chain.specs.Valid.{steps_of}
-use Rattle.chain.proofs.Valid.{step_sized}
-use Rattle.store.proofs.Copied.{row_in_strip, strip_length, part_room}
-use Rattle.store.proofs.First.{alone_stored, alone_accepts, alone_width}
 use Rattle.store.proofs.store.pack_rows.Given as goal
 
 abbrev pub invariant-loop-y : goal.invariant-loop-y

@@ -1,19 +1,13 @@
 -- `store_rows` meets its contract: before each turn the rows before y are stored, and the row above is at hand.
 use mathlib.Core.Path.{◌≡◌, refl, sym, ◌∙◌}
-use Prim.Native.Nat.{◌+◌, ◌*◌, ◌-◌, ◌≤◌}
+use Prim.Native.Nat.{◌+◌, ◌*◌, ◌≤◌}
 use native.Mathlib.Omega.{arith}
-use borrow.Author.Rules.{rules}
 use native.Mathlib.Nat.{le_refl}
 use lib.ListN.{length}
-use Rattle.format.specs.Picture.{pixels}
-use Rattle.pixel.specs.Cells.{pixel_cells, run, given}
 use Rattle.pixel.proofs.Blocks.{row_there}
 use Rattle.pixel.proofs.Given.{front_done}
 use Rattle.pixel.proofs.Rows.{no_rows, row_more}
-use Rattle.chain.specs.Valid.{stored_by}
 use Rattle.chain.proofs.Valid.{strip_fits}
-use Rattle.store.specs.Scratch.{Scratch}
-use Rattle.store.specs.Stage.{Above}
 use Rattle.store.proofs.Copied.{scratch_kept, row_stored, strip_length, part_room}
 use Rattle.store.proofs.Stages.{above_first, above_row}
 use Rattle.store.proofs.store.store_rows.Goals as goal
@@ -25,7 +19,11 @@ pub make_row-requires : goal.make_row-requires
 make_row-requires c =
     let p = c.requires in
     let l = c.loop-y in
-    record { storing = (p.storing.0, le_refl _, c.loop-y-test.true); accepts = (p.holds_strip.1, l.invariant.2); above = l.invariant.4 }
+    record {
+      storing = (p.storing.0, le_refl _, c.loop-y-test.true);
+      accepts = (p.holds_strip.1, l.invariant.2);
+      above = l.invariant.4;
+    }
 
 pub overflow_mul-a : goal.overflow_mul-a
 overflow_mul-a c =
@@ -51,7 +49,8 @@ pub copy_pixels-requires : goal.copy_pixels-requires
 copy_pixels-requires c =
     let a = c.args in
     let l = c.loop-y in
-    let r : 4 * (l.y * a.chain.strip.0) + 4 * a.chain.strip.0 ≤ length l.strip = omega (arith, row_there c.args.chain.strip.0 c.args.chain.height c.loop-y.y c.loop-y-test.true, c.requires.holds_strip.0, c.loop-y.invariant.1) in
+    let r : 4 * (l.y * a.chain.strip.0) + 4 * a.chain.strip.0 ≤ length l.strip =
+    omega (arith, row_there a.chain.strip.0 a.chain.height l.y c.loop-y-test.true, c.requires.holds_strip.0, l.invariant.1) in
     let m = c.make_row.auto.row in
     (omega (arith, l.invariant.2.one, strip_fits _ _ c.requires.storing.0.valid), part_room l.y a.chain.strip.0 l.strip r)
 
@@ -66,10 +65,11 @@ loop-y-preserved c =
     let p = c.requires in
     let a = c.args in
     let l = c.loop-y in
-    let r : 4 * (l.y * a.chain.strip.0) + 4 * a.chain.strip.0 ≤ length l.strip = omega (arith, row_there c.args.chain.strip.0 c.args.chain.height c.loop-y.y c.loop-y-test.true, c.requires.holds_strip.0, c.loop-y.invariant.1) in
+    let r : 4 * (l.y * a.chain.strip.0) + 4 * a.chain.strip.0 ≤ length l.strip =
+    omega (arith, row_there a.chain.strip.0 a.chain.height l.y c.loop-y-test.true, c.requires.holds_strip.0, l.invariant.1) in
     let h = rw (sym p.storing.0.valid.strip) at c.make_row.ensures.row_of in (
       omega (arith, c.loop-y-test.true),
-      strip_length l.y a.chain.strip.0 l.strip c.copy_pixels.new.1.0 c.copy_pixels.auto.to r ∙ l.invariant.1,
+      strip_length l.y a.chain.strip.0 l.strip c.copy_pixels.new.to c.copy_pixels.auto.to r ∙ l.invariant.1,
       scratch_kept _ _ _ _ l.invariant.2 c.make_row.auto.row c.make_row.auto.rows,
       row_more _ l.y a.chain.strip.0 _ _ _ l.invariant.3
           (row_stored _ l.y a.chain.strip.0 _ l.strip _ c.copy_pixels.ensures h r (part_room l.y a.chain.strip.0 l.strip r)),

@@ -1,21 +1,12 @@
 -- `store_rows` meets its contract: before each turn the rows before y are stored, and the row above is at hand.
-use mathlib.Core.Path.{◌≡◌, refl, sym, ◌∙◌}
-use Prim.Native.Nat.{◌+◌, ◌*◌, ◌-◌, ◌≤◌}
-use native.Mathlib.Omega.{arith}
-use borrow.Author.Rules.{rules}
-use native.Mathlib.Nat.{le_refl}
+use mathlib.Core.Path.{◌≡◌}
+use Prim.Native.Nat.{◌*◌, ◌-◌, ◌≤◌}
 use lib.ListN.{length}
 use Rattle.format.specs.Picture.{pixels}
 use Rattle.pixel.specs.Cells.{pixel_cells, run, given}
-use Rattle.pixel.proofs.Blocks.{row_there}
-use Rattle.pixel.proofs.Given.{front_done}
-use Rattle.pixel.proofs.Rows.{no_rows, row_more}
 use Rattle.chain.specs.Valid.{stored_by}
-use Rattle.chain.proofs.Valid.{strip_fits}
 use Rattle.store.specs.Scratch.{Scratch}
 use Rattle.store.specs.Stage.{Above}
-use Rattle.store.proofs.Copied.{scratch_kept, row_stored, strip_length, part_room}
-use Rattle.store.proofs.Stages.{above_first, above_row}
 use Rattle.store.proofs.store.store_rows.Given as goal
 
 abbrev pub invariant-loop-y : goal.invariant-loop-y

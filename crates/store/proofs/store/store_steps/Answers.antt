@@ -11,12 +11,19 @@ hints_at-hints-requires c = (c.requires.0, c.table_at-t.ensures)
 
 pub accept_picture-requires : goal.accept_picture-requires
 accept_picture-requires c =
-    let p = c.requires in record { storing = (record { valid = p.0; found = c.hints_at-hints.ensures; held = p.1 }, search rules); table_at = c.table_at-t.ensures }
+    let p = c.requires in
+    record {
+      storing = (record { valid = p.0; found = c.hints_at-hints.ensures; held = p.1 }, search rules);
+      table_at = c.table_at-t.ensures;
+    }
 
 pub store_rows-requires : goal.store_rows-requires
 store_rows-requires c =
     let p = c.requires in
-    record { storing = (record { valid = p.0; found = c.hints_at-hints.ensures; held = p.1 }, search rules); holds_strip = (p.2, sym c.accept_picture.ensures ∙ c.if-accept_picture.true) }
+    record {
+      storing = (record { valid = p.0; found = c.hints_at-hints.ensures; held = p.1 }, search rules);
+      holds_strip = (p.2, sym c.accept_picture.ensures ∙ c.if-accept_picture.true);
+    }
 
 pub returns-then-accept_picture : goal.returns-then-accept_picture
 returns-then-accept_picture c =

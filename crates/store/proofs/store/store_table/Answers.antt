@@ -2,7 +2,6 @@
 use mathlib.Core.Path.{refl, sym, ◌∙◌}
 use Prim.Native.Nat.{◌<◌}
 use native.Mathlib.Omega.{arith}
-use borrow.Author.Rules.{rules}
 use Rattle.format.specs.Picture.{pixels}
 use Rattle.chain.proofs.Valid.{step_sized}
 use Rattle.store.proofs.First.{alone_at, alone_accepts}
@@ -15,12 +14,18 @@ pub accept_first-requires : goal.accept_first-requires
 accept_first-requires c =
     let p = c.requires in
     let l : 0 < c.args.chain.count = omega (arith, p.1.one) in
-    record { sized = (step_sized _ _ p.0 0 l, p.0.step 0 l, p.1.kind); holds = (rw (p.0.width 0 l) p.2, c.hints_at-hints.ensures.found 0 l p.1.kind) }
+    record {
+      sized = (step_sized _ _ p.0 0 l, p.0.step 0 l, p.1.kind);
+      holds = (rw (p.0.width 0 l) p.2, c.hints_at-hints.ensures.found 0 l p.1.kind);
+    }
 
 pub pack_rows-requires : goal.pack_rows-requires
 pack_rows-requires c =
     let p = c.requires in
-    record { storing = (record { valid = p.0; found = c.hints_at-hints.ensures; held = p.2 }, p.1); holds_strip = (p.3, alone_accepts _ _ _ p.1 ∙ sym c.accept_first.ensures ∙ c.if-accept_first.true) }
+    record {
+      storing = (record { valid = p.0; found = c.hints_at-hints.ensures; held = p.2 }, p.1);
+      holds_strip = (p.3, alone_accepts _ _ _ p.1 ∙ sym c.accept_first.ensures ∙ c.if-accept_first.true);
+    }
 
 pub returns-then-accept_first : goal.returns-then-accept_first
 returns-then-accept_first c =

@@ -1,5 +1,4 @@
 -- `store_valid` meets its contract.
-use borrow.Author.Rules.{rules}
 use Rattle.store.proofs.store.store_valid.Goals as goal
 
 pub store_table-requires : goal.store_table-requires

@@ -1,5 +1,4 @@
 -- `table_alone` meets its contract.
-use native.Mathlib.Omega.{arith}
 use borrow.Author.Tests.{eqb-true}
 use Rattle.store.proofs.Tables.{not_both}
 use Rattle.store.proofs.store.table_alone.Goals as goal

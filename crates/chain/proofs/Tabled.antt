@@ -1,7 +1,7 @@
 -- What the table of kinds bounds.
 use mathlib.Core.Bool.{Bool, true, false, not, ◌&&◌}
 use mathlib.Core.List.{List}
-use mathlib.Core.Path.{◌≡◌, refl, sym}
+use mathlib.Core.Path.{◌≡◌, refl, sym, ◌∙◌}
 use Prim.Native.Nat.{ℕ, suc, ◌+◌, ◌*◌, ◌-◌, ◌^◌, ◌≤◌, ◌<◌}
 use native.Mathlib.Nat.{div-le_self, mul-le-mul}
 use native.Mathlib.Omega.{arith}
@@ -64,3 +64,12 @@ unused_not cs k j e l = sym (go (Unused cs k k) refl)
 
 pub unused_done : (cs : List ℕ) (k j : ℕ) → Unused cs k j ≡ true → j ≡ k → false ≡ not (Unused cs k k)
 unused_done cs k j e q = let d : Unused cs k k ≡ true = rw q at e in rw d refl
+
+-- a test of the code on `!a`, where a is the definition's b
+pub not_taken : (a b : Bool) → a ≡ b → not a ≡ true → b ≡ false
+not_taken true b e q = sym e ∙ sym q
+not_taken false b e q = sym e
+
+pub not_left : (a b : Bool) → a ≡ b → not a ≡ false → b ≡ true
+not_left true b e q = sym e
+not_left false b e q = sym e ∙ sym q

@@ -1,0 +1,22 @@
+-- `remake` meets its contract: before each turn none of the first k spots' records is missing, and those are made.
+use mathlib.Core.Path.{◌≡◌, refl, sym, ◌∙◌}
+use Prim.Native.Nat.{◌-◌, ◌≤◌}
+use native.Mathlib.Omega.{arith}
+use borrow.Author.Rules.{rules}
+use lib.ListN.{length, length-set}
+use Rattle.chain.specs.Valid.{records_in, stored_by}
+use Rattle.item.specs.Source.{shown}
+use Rattle.item.proofs.WhenMade.{made-item}
+use Rattle.retouch.specs.Remade.{MadeTo}
+use Rattle.retouch.proofs.Making.{SpotsPassed, passed_more, remade_refused, remade_all, to_none, to_more}
+use Rattle.retouch.proofs.remake.remake.Given as goal
+
+abbrev pub invariant-loop-k : goal.invariant-loop-k
+invariant-loop-k l =
+    SpotsPassed l.chain l.data (shown l.picture l.point) l.places l.spots.count l.k
+    × MadeTo l.k (stored_by l.chain l.data l.chain.count (shown l.picture l.point)) (records_in l.chain) l.places l.records
+    × (l.k ≤ l.spots.count)
+    × (length l.records ≡ 5)
+
+abbrev pub decreases-loop-k : goal.decreases-loop-k
+decreases-loop-k l = l.spots.count - l.k

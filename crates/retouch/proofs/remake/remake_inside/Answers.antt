@@ -1,0 +1,30 @@
+-- `remake_inside` meets its contract.
+use mathlib.Core.Path.{refl}
+use native.Mathlib.Omega.{arith}
+use borrow.Author.Rules.{rules}
+use borrow.Author.Tests.{lt-ltb, le-ltb}
+use Rattle.format.specs.Made.{made}
+use Rattle.chain.proofs.Valid.{records_few}
+use Rattle.retouch.proofs.Making.{record_inside}
+use Rattle.retouch.proofs.remake.remake_inside.Goals as goal
+
+pub records_in-requires : goal.records_in-requires
+unfolding made
+records_in-requires c = records_few c.args.chain _ c.requires.valid
+
+pub no_record-requires : goal.no_record-requires
+unfolding made
+no_record-requires c = search rules
+
+pub returns-then-records_in-r : goal.returns-then-records_in-r
+unfolding made
+returns-then-records_in-r c = rw (← c.records_in.ensures, le-ltb _ _ c.if-records_in-r.true, c.no_record.ensures) refl
+
+pub item-requires : goal.item-requires
+unfolding made
+item-requires c =
+    (c.requires, omega arith, record_inside c.args.chain _ c.requires.valid _ _ c.records_in.ensures c.if-records_in-r.false)
+
+pub returns : goal.returns
+unfolding made
+returns c = rw (← c.records_in.ensures, lt-ltb _ _ c.if-records_in-r.false) c.item.ensures

@@ -1,0 +1,6 @@
+-- `place_each` meets its contract.
+use borrow.Author.Rules.{rules}
+use Rattle.retouch.proofs.spots.place_each.Goals as goal
+
+pub returns : goal.returns
+returns c = ((cc), c.place.ensures.1)

@@ -1,0 +1,20 @@
+-- `write` meets its contract: before each turn the strip has the records of the spots from place k on.
+use mathlib.Core.Path.{◌≡◌, refl}
+use Prim.Native.Nat.{◌≤◌}
+use native.Mathlib.Omega.{arith}
+use lib.ListN.{length}
+use Rattle.retouch.proofs.Writing.{WrittenFrom, from_none, from_more, from_all}
+use Rattle.retouch.proofs.strip.write.Goals as goal
+
+pub loop-k-init : goal.loop-k-init
+loop-k-init c = (from_none _ _ _ _ _ (omega arith) (omega arith), omega arith, refl)
+
+pub loop-k-preserved : goal.loop-k-preserved
+loop-k-preserved c =
+    (from_more _ _ _ _ _ (omega arith) _ _ _ c.loop-k.invariant.0 (omega arith) (omega arith) c.write_inside.ensures, omega arith, omega arith)
+
+pub shape_of-strip : goal.shape_of-strip
+shape_of-strip c = c.loop-k.invariant.2
+
+pub returns : goal.returns
+returns c = from_all _ _ _ _ _ (omega arith) _ _ c.loop-k.invariant.0 (omega arith)

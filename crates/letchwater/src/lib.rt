@@ -1,5 +1,5 @@
 // The calls for the Rust host: numbers and byte slices. Each contract gives the number and every byte of every lent
-// buffer, on every input.
+// buffer, on every input. `letchwater_c` exports them.
 #![tactic(auto)]
 
 ghost use Rattle.std.specs.Prelude.{◌≡◌};
@@ -18,8 +18,7 @@ use retouch::retouch::retouch;
 use store::store::store;
 
 // Rebuilds a picture in the buffer whose front holds its strip.
-#[unsafe(no_mangle)]
-pub extern "C" fn letchwater_rebuild(
+pub fn letchwater_rebuild(
     width: u32,
     height: u32,
     chain: &[u8],
@@ -34,8 +33,7 @@ pub extern "C" fn letchwater_rebuild(
 }
 
 // Stores a picture as a strip.
-#[unsafe(no_mangle)]
-pub extern "C" fn letchwater_store(
+pub fn letchwater_store(
     width: u32,
     height: u32,
     chain: &[u8],
@@ -52,8 +50,7 @@ pub extern "C" fn letchwater_store(
 }
 
 // Paints column x of row y with the color r, g, b, a, and makes the records of its spots afresh.
-#[unsafe(no_mangle)]
-pub extern "C" fn letchwater_retouch(
+pub fn letchwater_retouch(
     width: u32,
     height: u32,
     chain: &[u8],
@@ -97,8 +94,7 @@ pub extern "C" fn letchwater_retouch(
 }
 
 // Adds a picture's pixels to the counters, by color: one counter for each color, then one for all others.
-#[unsafe(no_mangle)]
-pub extern "C" fn letchwater_report(
+pub fn letchwater_report(
     width: u32,
     height: u32,
     picture: &[u8],
@@ -114,8 +110,7 @@ pub extern "C" fn letchwater_report(
 }
 
 // Turns a color map as the file has it into finished entries.
-#[unsafe(no_mangle)]
-pub extern "C" fn letchwater_adjust_color_map(color_map: &mut [u8]) -> u32
+pub fn letchwater_adjust_color_map(color_map: &mut [u8]) -> u32
     ensures value { result ≡ color_map_answer color_map.old }
     ensures color_map_after { color_map.new ≡ adjust_color_map color_map.old }
 {
@@ -123,8 +118,7 @@ pub extern "C" fn letchwater_adjust_color_map(color_map: &mut [u8]) -> u32
 }
 
 // Undoes that.
-#[unsafe(no_mangle)]
-pub extern "C" fn letchwater_unadjust_color_map(color_map: &mut [u8]) -> u32
+pub fn letchwater_unadjust_color_map(color_map: &mut [u8]) -> u32
     ensures value { result ≡ color_map_answer color_map.old }
     ensures color_map_after { color_map.new ≡ unadjust_color_map color_map.old }
 {

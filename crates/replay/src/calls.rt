@@ -1,11 +1,11 @@
-// An exported call on a chain: the number, and every byte of the buffer that it writes.
+// A call of `letchwater` on a chain: the number, and every byte of the buffer that it writes.
 use crate::case::Call;
 use crate::outcome::{Outcome, not_undone};
 use letchwater::{letchwater_rebuild, letchwater_store};
 
 // Nothing is undone here: storing has its own cases.
 fn compared(c: Call, answer: u32, buffer: &[u8], output: &[u8]) -> Outcome {
-    let same = check::same(buffer, output);
+    let same = buffer == output;
     not_undone(answer == c.answer && same, answer != 0)
 }
 

@@ -12,7 +12,7 @@ pub struct Single {
     pub input_len: usize,
 }
 
-// An exported call on a chain.
+// A call of `letchwater` on a chain.
 #[derive(Clone, Copy)]
 pub struct Call {
     pub call: u8,

@@ -5,13 +5,11 @@ ghost use Rattle.std.specs.Prelude.{◌*◌, ◌≤◌, length};
 fn has_entry(pixel: &[u8], entries: &[u8], size: usize) -> bool
     requires { 4 * size ≤ length entries.now }
 {
-    let mut i = 0;
-    while i < size {
+    for i in 0..size {
         let at = 4 * i;
-        if check::same(pixel, &entries[at..at + 4]) {
+        if pixel == &entries[at..at + 4] {
             return true;
         }
-        i += 1;
     }
     false
 }
@@ -20,13 +18,11 @@ pub fn every_pixel_has_entry(image: &[u8], entries: &[u8], size: usize) -> bool
     requires { 4 * size ≤ length entries.now }
 {
     let count = image.len() / 4;
-    let mut i = 0;
-    while i < count {
+    for i in 0..count {
         let at = 4 * i;
         if !has_entry(&image[at..at + 4], entries, size) {
             return false;
         }
-        i += 1;
     }
     true
 }

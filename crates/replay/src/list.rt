@@ -9,7 +9,8 @@ use crate::reports::replay_reports;
 use crate::retouches::replay_retouches;
 use crate::sizes::picture_len;
 use crate::transforms::{replay_color_map, replay_color_table, replay_pixels};
-use libc::STDIN_FILENO;
+use std::io;
+use std::io::{BufRead, Read};
 
 #[derive(Clone, Copy)]
 pub enum Next {
@@ -75,26 +76,26 @@ fn replay_filled(
 }
 
 // Reads what follows the header of a transform by itself.
-fn replay_single(header: &[u8; 16]) -> Outcome {
+fn replay_single(list: &mut impl Read, header: &[u8; 16]) -> io::Result<Outcome> {
     let c = single_of(header);
     let record = record_of(header);
     let len = picture_len(c.width, c.height);
     if len == 0 {
-        return Outcome::Malformed;
+        return Ok(Outcome::Malformed);
     }
     let mut data = [0u8; 16384];
     let mut input = [0u8; 16384];
     let mut output = [0u8; 16384];
-    if lacks_part(&mut data, c.data_len) {
-        return Outcome::Malformed;
+    if lacks_part(list, &mut data, c.data_len)? {
+        return Ok(Outcome::Malformed);
     }
-    if lacks_part(&mut input, c.input_len) {
-        return Outcome::Malformed;
+    if lacks_part(list, &mut input, c.input_len)? {
+        return Ok(Outcome::Malformed);
     }
-    if lacks_part(&mut output, len) {
-        return Outcome::Malformed;
+    if lacks_part(list, &mut output, len)? {
+        return Ok(Outcome::Malformed);
     }
-    replay_filled(c, &record, len, &data, &input, &output)
+    Ok(replay_filled(c, &record, len, &data, &input, &output))
 }
 
 // Rebuilding goes in the input's buffer, storing into a strip that is not zero.
@@ -137,34 +138,35 @@ fn replay_filled_call(
 }
 
 // Reads what follows the header of a call on a chain.
-fn replay_call(header: &[u8; 16]) -> Outcome {
+fn replay_call(list: &mut impl Read, header: &[u8; 16]) -> io::Result<Outcome> {
     let c = call_of(header);
     let mut chain = [0u8; 16384];
     let mut data = [0u8; 16384];
     let mut input = [0u8; 16384];
     let mut output = [0u8; 16384];
-    if lacks_part(&mut chain, c.chain_len) {
-        return Outcome::Malformed;
+    if lacks_part(list, &mut chain, c.chain_len)? {
+        return Ok(Outcome::Malformed);
     }
-    if lacks_part(&mut data, c.data_len) {
-        return Outcome::Malformed;
+    if lacks_part(list, &mut data, c.data_len)? {
+        return Ok(Outcome::Malformed);
     }
-    if lacks_part(&mut input, c.input_len) {
-        return Outcome::Malformed;
+    if lacks_part(list, &mut input, c.input_len)? {
+        return Ok(Outcome::Malformed);
     }
-    if lacks_part(&mut output, c.output_len) {
-        return Outcome::Malformed;
+    if lacks_part(list, &mut output, c.output_len)? {
+        return Ok(Outcome::Malformed);
     }
-    replay_filled_call(c, &chain, &data, &mut input, &output)
+    Ok(replay_filled_call(c, &chain, &data, &mut input, &output))
 }
 
 fn replay_filled_retouches(
+    list: &mut impl Read,
     c: Call,
     chain: &[u8],
     data: &[u8],
     picture: &mut [u8],
     strip: &mut [u8],
-) -> Outcome
+) -> io::Result<Outcome>
     requires chain_len_in_bounds { (c.chain_len ≤ length chain.now) × (c.data_len ≤ length «data».now) }
     requires input_len_in_bounds { (c.input_len ≤ length picture.old) × (c.output_len ≤ length strip.old)
         × (c.input_len ≤ 16384) × (c.output_len ≤ 16384) }
@@ -174,99 +176,104 @@ fn replay_filled_retouches(
     let n = c.input_len;
     let m = c.output_len;
     let answers = replay_retouches(
+        list,
         c,
         &chain[0..chain_len],
         &data[0..data_len],
         &mut picture[0..n],
         &mut strip[0..m],
-    );
-    let with_picture = both(answers, compare_part(&picture[0..n]));
-    both(with_picture, compare_part(&strip[0..m]))
+    )?;
+    let with_picture = both(answers, compare_part(list, &picture[0..n])?);
+    Ok(both(with_picture, compare_part(list, &strip[0..m])?))
 }
 
 // Reads what follows the header of a list of retouches. The header has the picture's length where other calls have the
 // input's, the strip's where they have the output's.
-fn replay_retouch_list(header: &[u8; 16]) -> Outcome {
+fn replay_retouch_list(list: &mut impl Read, header: &[u8; 16]) -> io::Result<Outcome> {
     let c = call_of(header);
     let mut chain = [0u8; 16384];
     let mut data = [0u8; 16384];
     let mut picture = [0u8; 16384];
     let mut strip = [0u8; 16384];
-    if lacks_part(&mut chain, c.chain_len) {
-        return Outcome::Malformed;
+    if lacks_part(list, &mut chain, c.chain_len)? {
+        return Ok(Outcome::Malformed);
     }
-    if lacks_part(&mut data, c.data_len) {
-        return Outcome::Malformed;
+    if lacks_part(list, &mut data, c.data_len)? {
+        return Ok(Outcome::Malformed);
     }
-    if lacks_part(&mut picture, c.input_len) {
-        return Outcome::Malformed;
+    if lacks_part(list, &mut picture, c.input_len)? {
+        return Ok(Outcome::Malformed);
     }
-    if lacks_part(&mut strip, c.output_len) {
-        return Outcome::Malformed;
+    if lacks_part(list, &mut strip, c.output_len)? {
+        return Ok(Outcome::Malformed);
     }
-    replay_filled_retouches(c, &chain, &data, &mut picture, &mut strip)
+    replay_filled_retouches(list, c, &chain, &data, &mut picture, &mut strip)
 }
 
-fn replay_filled_reports(c: Reports, colors: &[u8], counters: &mut [u8]) -> Outcome
+fn replay_filled_reports(
+    list: &mut impl Read,
+    c: Reports,
+    colors: &[u8],
+    counters: &mut [u8],
+) -> io::Result<Outcome>
     requires { (c.colors_len ≤ length colors.now) × (c.counters_len ≤ length counters.old)
         × (c.counters_len ≤ 16384) }
 {
     let colors_len = c.colors_len;
     let n = c.counters_len;
-    let answers = replay_reports(c.calls, &colors[0..colors_len], &mut counters[0..n]);
-    both(answers, compare_part(&counters[0..n]))
+    let answers = replay_reports(list, c.calls, &colors[0..colors_len], &mut counters[0..n])?;
+    Ok(both(answers, compare_part(list, &counters[0..n])?))
 }
 
 // Reads what follows the header of a list of reports.
-fn replay_report_list(header: &[u8; 16]) -> Outcome {
+fn replay_report_list(list: &mut impl Read, header: &[u8; 16]) -> io::Result<Outcome> {
     let c = reports_of(header);
     let mut colors = [0u8; 16384];
     let mut counters = [0u8; 16384];
-    if lacks_part(&mut colors, c.colors_len) {
-        return Outcome::Malformed;
+    if lacks_part(list, &mut colors, c.colors_len)? {
+        return Ok(Outcome::Malformed);
     }
-    if lacks_part(&mut counters, c.counters_len) {
-        return Outcome::Malformed;
+    if lacks_part(list, &mut counters, c.counters_len)? {
+        return Ok(Outcome::Malformed);
     }
-    replay_filled_reports(c, &colors, &mut counters)
+    replay_filled_reports(list, c, &colors, &mut counters)
 }
 
-fn replay_header(header: &[u8; 16]) -> Outcome {
+fn replay_header(list: &mut impl Read, header: &[u8; 16]) -> io::Result<Outcome> {
     if header[0] <= 4 {
-        return replay_single(header);
+        return replay_single(list, header);
     }
     if header[0] <= 6 {
-        return replay_call(header);
+        return replay_call(list, header);
     }
     if header[0] == 7 {
-        return replay_retouch_list(header);
+        return replay_retouch_list(list, header);
     }
     if header[0] == 8 {
-        return replay_report_list(header);
+        return replay_report_list(list, header);
     }
-    Outcome::Malformed
+    Ok(Outcome::Malformed)
 }
 
-pub fn replay_next() -> Next {
+pub fn replay_next(list: &mut impl BufRead) -> io::Result<Next> {
+    if list.fill_buf()?.is_empty() {
+        return Ok(Next::End);
+    }
     let mut header = [0u8; 16];
-    let got = io::read_full(STDIN_FILENO, &mut header);
-    if got == 0 {
-        return Next::End;
+    if lacks_part(list, &mut header, 16)? {
+        return Ok(Next::Malformed);
     }
-    if got != 16 {
-        return Next::Malformed;
-    }
-    match replay_header(&header) {
+    match replay_header(list, &header)? {
         Outcome::Compared {
             same,
             back,
             refused,
-        } => Next::Compared {
+        } => Ok(Next::Compared {
             kind: header[0],
             same,
             back,
             refused,
-        },
-        Outcome::Malformed => Next::Malformed,
+        }),
+        Outcome::Malformed => Ok(Next::Malformed),
     }
 }

@@ -3,18 +3,21 @@ use crate::case::{Call, four_bytes};
 use crate::outcome::{Outcome, both, not_undone};
 use crate::parts::lacks_part;
 use letchwater::letchwater_retouch;
+use std::io;
+use std::io::Read;
 
 // One call, which follows in the list in 16 bytes: column, row, color, answer.
 fn replay_retouch(
+    list: &mut impl Read,
     c: Call,
     chain: &[u8],
     data: &[u8],
     picture: &mut [u8],
     strip: &mut [u8],
-) -> Outcome {
+) -> io::Result<Outcome> {
     let mut call = [0u8; 16];
-    if lacks_part(&mut call, 16) {
-        return Outcome::Malformed;
+    if lacks_part(list, &mut call, 16)? {
+        return Ok(Outcome::Malformed);
     }
     let answer = letchwater_retouch(
         c.width,
@@ -30,22 +33,24 @@ fn replay_retouch(
         call[10],
         call[11],
     );
-    not_undone(answer == four_bytes(&call, 12), answer < 256)
+    Ok(not_undone(answer == four_bytes(&call, 12), answer < 256))
 }
 
 // The header has how many calls there are where other calls have their answer.
 pub fn replay_retouches(
+    list: &mut impl Read,
     c: Call,
     chain: &[u8],
     data: &[u8],
     picture: &mut [u8],
     strip: &mut [u8],
-) -> Outcome {
+) -> io::Result<Outcome> {
     let mut outcome = not_undone(true, false);
-    let mut i = 0;
-    while i < c.answer {
-        outcome = both(outcome, replay_retouch(c, chain, data, picture, strip));
-        i += 1;
+    for _ in 0..c.answer {
+        outcome = both(
+            outcome,
+            replay_retouch(list, c, chain, data, picture, strip)?,
+        );
     }
-    outcome
+    Ok(outcome)
 }

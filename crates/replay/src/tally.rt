@@ -1,6 +1,5 @@
 // Counts of each kind of case, five transforms and four calls, and the lines that give them.
-use libc::STDOUT_FILENO;
-use std::num::{wrapping_add_u64, wrapping_sub_u64};
+use std::io;
 
 pub const KINDS: usize = 9;
 
@@ -13,39 +12,44 @@ pub fn count(counts: &mut [u64; KINDS], kind: u8, counted: bool) {
     let at = index(kind);
     if counted {
         if at < KINDS {
-            counts[at] = wrapping_add_u64(counts[at], 1);
+            counts[at] = counts[at].wrapping_add(1);
         }
     }
 }
 
-fn put(name: &[u8], what: &[u8], n: u64) {
-    io::write_all(STDOUT_FILENO, name);
-    io::print_decimal(STDOUT_FILENO, n);
-    io::write_all(STDOUT_FILENO, what);
+fn put(rt: &impl Print, name: &str, what: &str, n: u64) -> io::Result<()> {
+    print!(rt; "{name}{n}{what}")
 }
 
-pub fn print(name: &[u8], cases: u64, differences: u64, lost: u64) {
-    put(name, b" cases, ", cases);
-    put(b"", b" differences, ", differences);
-    put(b"", b" not given back\n", lost);
+pub fn print(
+    rt: &impl Print,
+    name: &str,
+    cases: u64,
+    differences: u64,
+    lost: u64,
+) -> io::Result<()> {
+    put(rt, name, " cases, ", cases)?;
+    put(rt, "", " differences, ", differences)?;
+    put(rt, "", " not given back\n", lost)
 }
 
 // Calls, which are not undone.
-pub fn print_call(name: &[u8], cases: u64, differences: u64) {
-    put(name, b" cases, ", cases);
-    put(b"", b" differences\n", differences);
+pub fn print_call(rt: &impl Print, name: &str, cases: u64, differences: u64) -> io::Result<()> {
+    put(rt, name, " cases, ", cases)?;
+    put(rt, "", " differences\n", differences)
 }
 
-pub fn print_refused(name: &[u8], cases: u64, refusals: u64) {
-    put(name, b" accepted, ", wrapping_sub_u64(cases, refusals));
-    put(b"", b" refused\n", refusals);
+pub fn print_refused(rt: &impl Print, name: &str, cases: u64, refusals: u64) -> io::Result<()> {
+    put(rt, name, " accepted, ", cases.wrapping_sub(refusals))?;
+    put(rt, "", " refused\n", refusals)
 }
 
-pub fn print_list(name: &[u8], cases: u64, refusals: u64) {
+pub fn print_list(rt: &impl Print, name: &str, cases: u64, refusals: u64) -> io::Result<()> {
     put(
+        rt,
         name,
-        b" accepted throughout, ",
-        wrapping_sub_u64(cases, refusals),
-    );
-    put(b"", b" with a refusal\n", refusals);
+        " accepted throughout, ",
+        cases.wrapping_sub(refusals),
+    )?;
+    put(rt, "", " with a refusal\n", refusals)
 }

@@ -21,9 +21,9 @@ fn rebuilt(
 ) -> bool
     requires { length input.now ≤ length image.old }
 {
-    bytes::copy(input, image);
+    image[..input.len()].copy_from_slice(input);
     let answer = letchwater_rebuild(c.width, c.height, record, data, image);
-    let same = check::same(image, output);
+    let same = *image == *output;
     answer == 0 && same
 }
 
@@ -41,7 +41,7 @@ pub fn replay_pixels(
 {
     let same = rebuilt(c, record, data, input, output, image);
     let answer = letchwater_store(c.width, c.height, record, data, image, strip);
-    let back = check::same(strip, input);
+    let back = *strip == *input;
     Outcome::Compared {
         same,
         back: answer == 0 && back,
@@ -71,7 +71,7 @@ fn store_back(
         };
     }
     let again = letchwater_rebuild(c.width, c.height, record, entries, strip);
-    let back = check::same(strip, image);
+    let back = *strip == *image;
     Outcome::Compared {
         same,
         back: storable && again == 0 && back,
@@ -104,11 +104,11 @@ pub fn replay_color_table(
 pub fn replay_color_map(input: &[u8], output: &[u8], image: &mut [u8]) -> Outcome
     requires { length input.now ≤ length image.old }
 {
-    bytes::copy(input, image);
+    image[..input.len()].copy_from_slice(input);
     let adjusted = letchwater_adjust_color_map(image);
-    let same = check::same(image, output);
+    let same = *image == *output;
     let unadjusted = letchwater_unadjust_color_map(image);
-    let back = check::same(image, input);
+    let back = *image == *input;
     Outcome::Compared {
         same: adjusted == 0 && same,
         back: unadjusted == 0 && back,

@@ -3,6 +3,7 @@ use crate::calls::both;
 use crate::chains::{color, subtract_green};
 use crate::print::{bytes_line, line};
 use letchwater::{letchwater_adjust_color_map, letchwater_rebuild, letchwater_unadjust_color_map};
+use std::io;
 
 // The delta of t and c, as the red that green c gives by the factor t.
 fn delta(t: u8, c: u8) -> u8 {
@@ -11,45 +12,48 @@ fn delta(t: u8, c: u8) -> u8 {
     image[0]
 }
 
-pub fn deltas() {
+pub fn deltas(rt: &impl Print) -> io::Result<()> {
     bytes_line(
-        b"delta",
+        rt,
+        "delta",
         &[
             delta(255, 1),
             delta(127, 127),
             delta(128, 127),
             delta(128, 128),
         ],
-    );
+    )
 }
 
-pub fn pixels() {
+pub fn pixels(rt: &impl Print) -> io::Result<()> {
     let mut image = [10, 32, 5, 9];
     both(
-        b"color",
+        rt,
+        "color",
         1,
         1,
         &color(),
         &[32, 0, 32, 0],
         &mut image,
         &mut [165; 4],
-    );
+    )?;
     let mut green = [250, 10, 255, 7];
     both(
-        b"subtract green",
+        rt,
+        "subtract green",
         1,
         1,
         &subtract_green(),
         b"",
         &mut green,
         &mut [165; 4],
-    );
+    )
 }
 
-pub fn color_map() {
+pub fn color_map(rt: &impl Print) -> io::Result<()> {
     let mut map = [250u8, 0, 0, 255, 10, 1, 0, 0];
     let adjusted = letchwater_adjust_color_map(&mut map);
-    line(b"color map", b", adjusted", adjusted, &map);
+    line(rt, "color map", ", adjusted", adjusted, &map)?;
     let undone = letchwater_unadjust_color_map(&mut map);
-    line(b"color map", b", undone", undone, &map);
+    line(rt, "color map", ", undone", undone, &map)
 }

@@ -1,5 +1,5 @@
 // The worked pictures of document 01 and of the format's text, and reports worked out from document 02, run through the
-// exported calls: a line for each call, with its number and the bytes that came out.
+// calls of `letchwater`: a line for each call, with its number and the bytes that came out.
 #![tactic(auto)]
 
 mod calls;
@@ -12,25 +12,27 @@ mod report_pictures;
 mod retouch_pictures;
 mod table_pictures;
 
-fn main() {
-    predictor_pictures::borders();
-    predictor_pictures::inner();
-    predictor_pictures::twice_rounded();
-    predictor_pictures::stored();
-    predictor_pictures::modes();
-    color_pictures::deltas();
-    color_pictures::pixels();
-    color_pictures::color_map();
-    table_pictures::past_size();
-    table_pictures::bundles();
-    table_pictures::empty_chain();
-    table_pictures::table_then_predictor();
-    retouch_pictures::middle();
-    retouch_pictures::shared();
-    retouch_pictures::five();
-    retouch_pictures::entries();
-    report_pictures::shipment();
-    report_pictures::lists();
-    report_pictures::full();
-    limits::limits();
+use std::io;
+
+fn main(rt: HostRuntime) -> io::Result<()> {
+    predictor_pictures::borders(&rt)?;
+    predictor_pictures::inner(&rt)?;
+    predictor_pictures::twice_rounded(&rt)?;
+    predictor_pictures::stored(&rt)?;
+    predictor_pictures::modes(&rt)?;
+    color_pictures::deltas(&rt)?;
+    color_pictures::pixels(&rt)?;
+    color_pictures::color_map(&rt)?;
+    table_pictures::past_size(&rt)?;
+    table_pictures::bundles(&rt)?;
+    table_pictures::empty_chain(&rt)?;
+    table_pictures::table_then_predictor(&rt)?;
+    retouch_pictures::middle(&rt)?;
+    retouch_pictures::shared(&rt)?;
+    retouch_pictures::five(&rt)?;
+    retouch_pictures::entries(&rt)?;
+    report_pictures::shipment(&rt)?;
+    report_pictures::lists(&rt)?;
+    report_pictures::full(&rt)?;
+    limits::limits(&rt)
 }

@@ -3,39 +3,42 @@ use crate::calls::{both, store};
 use crate::chains::predictor;
 use crate::print::bytes_line;
 use letchwater::letchwater_rebuild;
+use std::io;
 
 // The first pixel is predicted as black, the rest of row 0 as L.
-pub fn borders() {
+pub fn borders(rt: &impl Print) -> io::Result<()> {
     let data = [0, 7, 0, 255];
     let mut one = [1, 2, 3, 4];
     both(
-        b"1 by 1",
+        rt,
+        "1 by 1",
         1,
         1,
         &predictor(),
         &data,
         &mut one,
         &mut [165; 4],
-    );
+    )?;
     let mut two = [1, 2, 3, 0, 10, 20, 30, 0];
     both(
-        b"2 by 1",
+        rt,
+        "2 by 1",
         2,
         1,
         &predictor(),
         &data,
         &mut two,
         &mut [165; 8],
-    );
+    )
 }
 
 // The last pixel is off the borders; its top right is the first of its own row. The strip's buffer is longer than
 // needed.
-fn two_by_two(name: &[u8], mode: u8, residuals: [u8; 16]) {
+fn two_by_two(rt: &impl Print, name: &str, mode: u8, residuals: [u8; 16]) -> io::Result<()> {
     let data = [0, mode, 0, 255];
     let mut image = residuals;
     let mut strip = [165u8; 18];
-    both(name, 2, 2, &predictor(), &data, &mut image, &mut strip);
+    both(rt, name, 2, 2, &predictor(), &data, &mut image, &mut strip)
 }
 
 // Reds 5, 6, 7 as top left, top and left.
@@ -43,16 +46,16 @@ fn reds() -> [u8; 16] {
     [5, 0, 0, 0, 1, 0, 0, 0, 2, 0, 0, 0, 0, 0, 0, 0]
 }
 
-pub fn inner() {
-    two_by_two(b"mode 3, last column", 3, reds());
-    two_by_two(b"mode 14", 14, reds());
+pub fn inner(rt: &impl Print) -> io::Result<()> {
+    two_by_two(rt, "mode 3, last column", 3, reds())?;
+    two_by_two(rt, "mode 14", 14, reds())?;
     let tie = [0, 0, 0, 0, 0, 10, 0, 0, 10, 0, 0, 0, 0, 0, 0, 0];
-    two_by_two(b"mode 11, a tie", 11, tie);
+    two_by_two(rt, "mode 11, a tie", 11, tie)?;
     // Red has L 200, T 200, TL 100, and green L 10, T 20, TL 100.
     let ends = [100, 100, 0, 0, 100, 176, 0, 0, 100, 166, 0, 0, 0, 0, 0, 0];
-    two_by_two(b"mode 12, both ends", 12, ends);
+    two_by_two(rt, "mode 12, both ends", 12, ends)?;
     let odd = [13, 0, 0, 0, 253, 0, 0, 0, 253, 0, 0, 0, 0, 0, 0, 0];
-    two_by_two(b"mode 13, toward zero", 13, odd);
+    two_by_two(rt, "mode 13, toward zero", 13, odd)
 }
 
 // Residuals in red alone, of 3 by 2. Pixel 4 has all four neighbors.
@@ -67,20 +70,29 @@ fn three_by_two(reds: [u8; 6]) -> [u8; 24] {
     image
 }
 
-pub fn twice_rounded() {
+pub fn twice_rounded(rt: &impl Print) -> io::Result<()> {
     let data = [0, 10, 0, 255];
     let mut image = three_by_two([0, 1, 1, 1, 0, 0]);
     let mut strip = [165u8; 24];
-    let name = b"mode 10, twice rounded";
-    both(name, 3, 2, &predictor(), &data, &mut image, &mut strip);
+    let name = "mode 10, twice rounded";
+    both(rt, name, 3, 2, &predictor(), &data, &mut image, &mut strip)
 }
 
 // The middle pixel's gain is the next one's loss.
-pub fn stored() {
+pub fn stored(rt: &impl Print) -> io::Result<()> {
     let data = [0, 0, 0, 255];
     let picture = [0, 0, 0, 255, 9, 0, 0, 255, 0, 0, 0, 255];
     let mut strip = [165u8; 12];
-    store(b"3 by 1", 3, 1, &predictor(), &data, &picture, &mut strip);
+    store(
+        rt,
+        "3 by 1",
+        3,
+        1,
+        &predictor(),
+        &data,
+        &picture,
+        &mut strip,
+    )
 }
 
 // The red that a mode predicts from L 50, T 80, TR 200, TL 101.
@@ -92,9 +104,10 @@ fn predicted(mode: u8) -> u8 {
 }
 
 // The format's table of modes.
-pub fn modes() {
+pub fn modes(rt: &impl Print) -> io::Result<()> {
     bytes_line(
-        b"modes 0 to 13",
+        rt,
+        "modes 0 to 13",
         &[
             predicted(0),
             predicted(1),
@@ -111,5 +124,5 @@ pub fn modes() {
             predicted(12),
             predicted(13),
         ],
-    );
+    )
 }

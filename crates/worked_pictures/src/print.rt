@@ -1,34 +1,24 @@
 // Lines of output: what a call was given, the number that it answered, and the bytes of the buffer that it wrote.
-use libc::STDOUT_FILENO;
+use std::io;
 
-fn wide(x: u8) -> u64 {
-    x as u64
+fn number(rt: &impl Print, x: u8) -> io::Result<()> {
+    print!(rt; " {x}")
 }
 
-fn number(x: u8) {
-    io::write_all(STDOUT_FILENO, b" ");
-    io::print_decimal(STDOUT_FILENO, wide(x));
-}
-
-fn numbers(bytes: &[u8]) {
-    let mut i = 0;
-    while i < bytes.len() {
-        number(bytes[i]);
-        i += 1;
+fn numbers(rt: &impl Print, bytes: &[u8]) -> io::Result<()> {
+    for x in bytes {
+        number(rt, *x)?;
     }
+    Ok(())
 }
 
-pub fn bytes_line(name: &[u8], bytes: &[u8]) {
-    io::write_all(STDOUT_FILENO, name);
-    io::write_all(STDOUT_FILENO, b":");
-    numbers(bytes);
-    io::write_all(STDOUT_FILENO, b"\n");
+pub fn bytes_line(rt: &impl Print, name: &str, bytes: &[u8]) -> io::Result<()> {
+    print!(rt; "{name}:")?;
+    numbers(rt, bytes)?;
+    println!(rt)
 }
 
-pub fn line(name: &[u8], call: &[u8], answer: u32, bytes: &[u8]) {
-    io::write_all(STDOUT_FILENO, name);
-    io::write_all(STDOUT_FILENO, call);
-    io::write_all(STDOUT_FILENO, b" ");
-    io::print_decimal(STDOUT_FILENO, answer as u64);
-    bytes_line(b"", bytes);
+pub fn line(rt: &impl Print, name: &str, call: &str, answer: u32, bytes: &[u8]) -> io::Result<()> {
+    print!(rt; "{name}{call} {answer}")?;
+    bytes_line(rt, "", bytes)
 }

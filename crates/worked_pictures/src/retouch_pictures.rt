@@ -1,34 +1,42 @@
 // Retouches: each call of a list on what the last one left.
 use crate::calls::retouch;
 use crate::chains::{color_table, predictor};
+use std::io;
 
 // Opaque black.
 fn black() -> [u8; 12] {
     [0, 0, 0, 255, 0, 0, 0, 255, 0, 0, 0, 255]
 }
 
-fn three_wide(name: &[u8], picture: &mut [u8], strip: &mut [u8], x: u32) {
+fn three_wide(
+    rt: &impl Print,
+    name: &str,
+    picture: &mut [u8],
+    strip: &mut [u8],
+    x: u32,
+) -> io::Result<()> {
     let data = [0, 0, 0, 255];
     let color = [9, 0, 0, 255];
     let chain = predictor();
-    retouch(name, 3, 1, &chain, &data, picture, strip, x, 0, color);
+    retouch(rt, name, 3, 1, &chain, &data, picture, strip, x, 0, color)
 }
 
 // The middle, the same again, and a point outside.
-pub fn middle() {
+pub fn middle(rt: &impl Print) -> io::Result<()> {
     let mut picture = black();
     let mut strip = [0u8; 12];
-    three_wide(b"3 by 1, the middle", &mut picture, &mut strip, 1);
-    three_wide(b"the same again", &mut picture, &mut strip, 1);
-    three_wide(b"column 3", &mut picture, &mut strip, 3);
+    three_wide(rt, "3 by 1, the middle", &mut picture, &mut strip, 1)?;
+    three_wide(rt, "the same again", &mut picture, &mut strip, 1)?;
+    three_wide(rt, "column 3", &mut picture, &mut strip, 3)
 }
 
 // 1 by 3: p + w - 1 is p, and p + w is p + 1, so that two spots share a record twice.
-pub fn shared() {
+pub fn shared(rt: &impl Print) -> io::Result<()> {
     let mut picture = black();
     let mut strip = [0u8; 12];
-    let name = b"1 by 3, the top";
+    let name = "1 by 3, the top";
     retouch(
+        rt,
         name,
         1,
         3,
@@ -39,7 +47,7 @@ pub fn shared() {
         0,
         0,
         [9, 0, 0, 255],
-    );
+    )
 }
 
 fn black_eight() -> [u8; 32] {
@@ -56,11 +64,12 @@ fn black_eight() -> [u8; 32] {
 }
 
 // 4 by 2 in mode 10: all five spots change.
-pub fn five() {
+pub fn five(rt: &impl Print) -> io::Result<()> {
     let mut picture = black_eight();
     let mut strip = [0u8; 32];
-    let name = b"4 by 2, mode 10";
+    let name = "4 by 2, mode 10";
     retouch(
+        rt,
         name,
         4,
         2,
@@ -71,23 +80,39 @@ pub fn five() {
         2,
         0,
         [128, 0, 0, 255],
-    );
+    )
 }
 
-fn of_two(name: &[u8], picture: &mut [u8], strip: &mut [u8], x: u32, color: [u8; 4]) {
+fn of_two(
+    rt: &impl Print,
+    name: &str,
+    picture: &mut [u8],
+    strip: &mut [u8],
+    x: u32,
+    color: [u8; 4],
+) -> io::Result<()> {
     let entries = [1, 2, 3, 4, 5, 6, 7, 8];
     let chain = color_table(2, 8);
-    retouch(name, 3, 1, &chain, &entries, picture, strip, x, 0, color);
+    retouch(
+        rt, name, 3, 1, &chain, &entries, picture, strip, x, 0, color,
+    )
 }
 
 // A color that the table lacks, and one that it has; in the last column it goes to the unused bits too.
-pub fn entries() {
+pub fn entries(rt: &impl Print) -> io::Result<()> {
     let mut picture = [1, 2, 3, 4, 1, 2, 3, 4, 1, 2, 3, 4];
     let mut strip = [0, 0, 0, 255, 165, 165];
     let lacks = [5, 6, 7, 9];
-    of_two(b"table of 2, no entry", &mut picture, &mut strip, 1, lacks);
+    of_two(
+        rt,
+        "table of 2, no entry",
+        &mut picture,
+        &mut strip,
+        1,
+        lacks,
+    )?;
     let has = [5, 6, 7, 8];
-    of_two(b"table of 2, an entry", &mut picture, &mut strip, 1, has);
-    let name = b"table of 2, the last column";
-    of_two(name, &mut picture, &mut strip, 2, has);
+    of_two(rt, "table of 2, an entry", &mut picture, &mut strip, 1, has)?;
+    let name = "table of 2, the last column";
+    of_two(rt, name, &mut picture, &mut strip, 2, has)
 }

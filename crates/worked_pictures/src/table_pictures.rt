@@ -1,16 +1,18 @@
 // The color table, and chains of none and of two records.
 use crate::calls::both;
 use crate::chains::color_table;
+use std::io;
 
 // 5 by 1 of three entries, packed into two pixels of four indices each: 228 is 0, 1, 2, 3 from the lowest bits up, and
 // 254 starts with 2.
-fn five(name: &[u8], entries: &[u8; 12]) {
+fn five(rt: &impl Print, name: &str, entries: &[u8; 12]) -> io::Result<()> {
     let mut image = [165u8; 20];
     image[0] = 0;
     image[1] = 228;
     image[5] = 254;
     let mut strip = [165u8; 8];
     both(
+        rt,
         name,
         5,
         1,
@@ -18,16 +20,17 @@ fn five(name: &[u8], entries: &[u8; 12]) {
         entries,
         &mut image,
         &mut strip,
-    );
+    )
 }
 
 // Index 3 is past the size. The clear pixel that it gives is stored where an entry is clear.
-pub fn past_size() {
-    five(b"color table", &[1, 2, 3, 4, 5, 6, 7, 8, 9, 10, 11, 12]);
+pub fn past_size(rt: &impl Print) -> io::Result<()> {
+    five(rt, "color table", &[1, 2, 3, 4, 5, 6, 7, 8, 9, 10, 11, 12])?;
     five(
-        b"with a clear entry",
+        rt,
+        "with a clear entry",
         &[1, 2, 3, 4, 0, 0, 0, 0, 9, 10, 11, 12],
-    );
+    )
 }
 
 // Entry i is i, 255, 255, 255, for the indices that are used.
@@ -43,32 +46,32 @@ fn entries() -> [u8; 68] {
 }
 
 // 3 by 1 by a table whose entries tell their index.
-fn three(name: &[u8], chain: [u8; 16], packed: [u8; 12]) {
+fn three(rt: &impl Print, name: &str, chain: [u8; 16], packed: [u8; 12]) -> io::Result<()> {
     let mut image = packed;
     let mut strip = [165u8; 12];
-    both(name, 3, 1, &chain, &entries(), &mut image, &mut strip);
+    both(rt, name, 3, 1, &chain, &entries(), &mut image, &mut strip)
 }
 
 // How many indices the format bundles into a pixel of 3 by 1, by the table's size. Unused bits are zero, as in strips
 // stored earlier; storing puts the last index there.
-pub fn bundles() {
+pub fn bundles(rt: &impl Print) -> io::Result<()> {
     let eight = [0, 5, 0, 255, 0, 0, 0, 0, 0, 0, 0, 0];
-    three(b"bundles of 8", color_table(2, 8), eight);
+    three(rt, "bundles of 8", color_table(2, 8), eight)?;
     let four = [0, 27, 0, 255, 0, 0, 0, 0, 0, 0, 0, 0];
-    three(b"bundles of 4", color_table(4, 16), four);
+    three(rt, "bundles of 4", color_table(4, 16), four)?;
     let two = [0, 47, 0, 255, 0, 3, 0, 255, 0, 0, 0, 0];
-    three(b"bundles of 2", color_table(16, 64), two);
+    three(rt, "bundles of 2", color_table(16, 64), two)?;
     let one = [0, 16, 0, 255, 0, 17, 0, 255, 0, 3, 0, 255];
-    three(b"no bundles", color_table(17, 68), one);
+    three(rt, "no bundles", color_table(17, 68), one)
 }
 
-pub fn empty_chain() {
+pub fn empty_chain(rt: &impl Print) -> io::Result<()> {
     let mut image = [1, 2, 3, 4];
-    both(b"empty chain", 1, 1, b"", b"", &mut image, &mut [165; 5]);
+    both(rt, "empty chain", 1, 1, b"", b"", &mut image, &mut [165; 5])
 }
 
 // 5 by 1 by a table, then a predictor over the two packed pixels, whose block follows the entries in the data.
-pub fn table_then_predictor() {
+pub fn table_then_predictor(rt: &impl Print) -> io::Result<()> {
     let mut chain = [0u8; 32];
     // kind, size, length
     chain[0] = 3;
@@ -83,6 +86,6 @@ pub fn table_then_predictor() {
     image[1] = 228;
     image[5] = 26;
     let mut strip = [165u8; 8];
-    let name = b"table, then predictor";
-    both(name, 5, 1, &chain, &data, &mut image, &mut strip);
+    let name = "table, then predictor";
+    both(rt, name, 5, 1, &chain, &data, &mut image, &mut strip)
 }

@@ -1,15 +1,26 @@
 -- The calls that item, neighbor, packed and residual make of each other meet their contracts, each below the measure of
 -- its caller.
-use Rattle.std.proofs.Common.{◌≡◌, ◌-◌, not, ap, ◌∙◌, arith}
+use Rattle.std.proofs.Common.{◌≡◌, ℕ, ◌-◌, not, ap, ◌∙◌, arith}
 use Rattle.chain.specs.Valid.{steps_of}
 use Rattle.chain.proofs.Parts.{table_kind}
 use Rattle.item.specs.Made.{mapped}
 use Rattle.item.proofs.WhenMade.{asked_none, asked_one}
 use Rattle.item.proofs.Inside.{row_small, item_inside, neighbor_inside}
 use Rattle.item.proofs.Stage.{made_first, made_later, made_1, made_2, made_3, residual_next, record_next, record_last, record_room}
-use Rattle.item.proofs.Before.{counted, inside_later, inside_kept, sized_here, inside_before, place_here, block_here, records_some, records_row, records_column}
+use Rattle.item.proofs.Before.{picture_room, counted, inside_later, inside_kept, sized_here, inside_before, place_here, block_here, records_some, records_row, records_column}
 use Rattle.item.proofs.Columns.{no-columns}
 use Rattle.item.proofs.+item_neighbor_packed_residual.Goals as goal
+use Rattle.item.proofs.+item_neighbor_packed_residual.Goals.{item-In_default}
+
+-- a record of none of the first three kinds is a table
+table : (t : ℕ) (c : item-In_default t) → (steps_of c.args.chain (c.args.k - 1)).kind ≡ 3
+table t c =
+    let p = c.requires in
+    table_kind _ _ _ (p.0.valid.step _ (counted _ _ c.if-k-eq0.false p.1)) (((tt, λ e. omega arith), λ e. omega arith), λ e. omega arith)
+
+pub item-painted-requires : goal.item-painted-requires
+item-painted-requires t c =
+    let p = c.requires in picture_room c.args.chain _ _ c.args.picture.now c.if-k-eq0.true p.0.held p.2
 
 pub item-returns-then-k-eq0 : goal.item-returns-then-k-eq0
 item-returns-then-k-eq0 t c = made_first _ _ _ _ _ c.if-k-eq0.true _ c.painted.ensures
@@ -57,14 +68,14 @@ pub item-packed_place-at-requires : goal.item-packed_place-at-requires
 item-packed_place-at-requires t c =
     let p = c.requires in
     let u = counted _ _ c.if-k-eq0.false p.1 in
-    let z = table_kind _ _ _ (p.0.valid.step _ u) (((tt, λ e. omega arith), λ e. omega arith), λ e. omega arith) in
+    let z = table t (goal.at.item-packed_place-at-requires t c).In_default in
     records_some c.args.chain _ p.0.valid _ u _ z c.packed_width.ensures
 
 pub item-overflow_mul-at : goal.item-overflow_mul-at
 item-overflow_mul-at t c =
     let p = c.requires in
     let u = counted _ _ c.if-k-eq0.false p.1 in
-    let z = table_kind _ _ _ (p.0.valid.step _ u) (((tt, λ e. omega arith), λ e. omega arith), λ e. omega arith) in
+    let z = table t (goal.at.item-overflow_mul-at t c).In_default in
     omega (arith, records_column c.args.chain _ p.0.valid _ u _ z c.packed_width.ensures c.args.q _ _ c.packed_place-at.ensures.0 c.per_pixel-n.ensures.0, (sized_here c.args.chain _ p.0.valid _ u).narrow)
 
 pub item-packed-requires : goal.item-packed-requires
@@ -72,7 +83,7 @@ item-packed-requires t c =
     let p = c.requires in
     let d = c.if-k-eq0.false in
     let u = counted _ _ d p.1 in
-    let z = table_kind _ _ _ (p.0.valid.step _ u) (((tt, λ e. omega arith), λ e. omega arith), λ e. omega arith) in
+    let z = table t (goal.at.item-packed-requires t c).In_default in
     let row = records_row c.args.chain _ p.0.valid _ u _ z c.packed_width.ensures _ _ c.packed_place-at.ensures.1 (inside_later c.args.chain _ _ d p.2) in
     let column = records_column c.args.chain _ p.0.valid _ u _ z c.packed_width.ensures c.args.q _ _ c.packed_place-at.ensures.0 c.per_pixel-n.ensures.0 in
     (omega (arith, c.decreases, d, c.per_pixel-n.ensures.1.most), ((p.0, u, z), (row, column, omega (arith, c.per_pixel-n.ensures.0))))
@@ -91,8 +102,7 @@ item-returns-in-2 t c =
 
 pub item-returns-in_default : goal.item-returns-in_default
 item-returns-in_default t c =
-    let p = c.requires in
-    let z = table_kind _ _ _ (p.0.valid.step _ (counted _ _ c.if-k-eq0.false p.1)) (((tt, λ e. omega arith), λ e. omega arith), λ e. omega arith) in
+    let z = table t (goal.at.item-returns-in_default t c).In_default in
     let a = c.packed_place-at.ensures in
     c.packed.ensures ∙ made_3 _ _ _ _ z _ _ _ _ _ c.packed_width.ensures c.per_pixel-n.ensures.0 a.0 a.1 ∙ made_later _ _ _ _ _ c.if-k-eq0.false
 
@@ -131,21 +141,11 @@ pub packed-overflow_add-x : goal.packed-overflow_add-x
 packed-overflow_add-x t c =
     let p = c.requires in omega (arith, p.y_lt_height.1, (sized_here c.args.chain _ p.source.0.valid _ p.source.1).narrow)
 
-pub packed-repeated-requires : goal.packed-repeated-requires
-packed-repeated-requires t c =
-    let p = c.requires in
-    let v = p.source.0.valid.step _ p.source.1 in
-    (record { inside = v.inside; table = v.table p.source.2 }, omega (arith, p.y_lt_height.2, c.if-n-eq0.false))
-
 pub packed-returns-then-s-x : goal.packed-returns-then-s-x
 packed-returns-then-s-x t c =
     let p = c.requires in
     record_last _ _ _ _ p.source.2 _ c.args.n (c.args.n - 1) _ _ _ (omega (arith, c.if-n-eq0.false)) (omega (arith, c.if-s-x.true, p.y_lt_height.1)) c.repeated.ensures
     (rw c.expanded_index-q.ensures at c.item-first.ensures)
-
-pub packed-overflow_add-x-2 : goal.packed-overflow_add-x-2
-packed-overflow_add-x-2 t c =
-    let p = c.requires in omega (arith, p.y_lt_height.1, (sized_here c.args.chain _ p.source.0.valid _ p.source.1).narrow)
 
 pub packed-packed-rest-requires : goal.packed-packed-rest-requires
 packed-packed-rest-requires t c =

@@ -1,6 +1,5 @@
 -- `painted` meets its contract, test by test.
 use mathlib.Core.Path.{◌∙◌}
-use borrow.Author.Rules.{rules}
 use Rattle.item.proofs.Before.{shown_here, shown_off}
 use Rattle.item.proofs.painted.Goals as goal
 

@@ -1,6 +1,5 @@
 -- `neighbor_index` meets its contract, neighbor by neighbor.
 use native.Mathlib.Omega.{arith}
-use borrow.Author.Rules.{rules}
 use Rattle.item.proofs.Inside.{row_small, left_at, top_at, top_right_wraps, top_right_at, top_left_at}
 use Rattle.item.proofs.around.neighbor_index.Goals as goal
 

@@ -1,6 +1,5 @@
 -- `block_pixel` meets its contract: the column's block has its data pixel in the part that the record names.
 use native.Mathlib.Omega.{arith}
-use borrow.Author.Rules.{rules}
 use Rattle.item.proofs.Data.{block_small, block_room, block_at}
 use Rattle.item.proofs.block.block_pixel.Goals as goal
 

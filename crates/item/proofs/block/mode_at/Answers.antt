@@ -1,6 +1,5 @@
 -- `mode_at` meets its contract, border by border.
 use mathlib.Core.Path.{ap}
-use borrow.Author.Rules.{rules}
 use borrow.Author.Tests.{eq-eqb, ne_eqb}
 use Rattle.format.specs.declared.Pixel.{Pixel}
 use Rattle.item.specs.Neighbors.{mode_at}

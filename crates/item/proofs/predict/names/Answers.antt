@@ -1,6 +1,5 @@
 -- `names` meets its contract: the bit is that of the mode's mask.
 use native.Mathlib.Omega.{arith}
-use borrow.Author.Rules.{rules}
 use Rattle.item.proofs.Named.{names_over_13}
 use Rattle.item.proofs.predict.names.Goals as goal
 

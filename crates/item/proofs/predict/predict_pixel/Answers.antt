@@ -1,7 +1,6 @@
 -- `predict_pixel` meets its contract, mode by mode.
 use mathlib.Core.Path.{sym, ◌∙◌}
 use native.Mathlib.Omega.{arith}
-use borrow.Author.Rules.{rules}
 use Rattle.format.specs.Predictor.{predict}
 use Rattle.format.proofs.Modes.{mode_over_13}
 use Rattle.item.proofs.predict.predict_pixel.Goals as goal

@@ -1,5 +1,4 @@
 -- `index_of` meets its contract: the word that is looked up is the pixel's.
-use borrow.Author.Rules.{rules}
 use Rattle.item.proofs.Data.{entries_room}
 use Rattle.item.proofs.table.index_of.Goals as goal
 

@@ -1,11 +1,7 @@
 -- `repeated_index` meets its contract: before each turn `byte` holds k indices.
 use mathlib.Core.Path.{◌≡◌}
 use Prim.Native.Nat.{◌≤◌, ◌<◌, ◌-◌, ◌^◌}
-use native.Mathlib.Nat.{pow-zero}
-use native.Mathlib.Omega.{arith}
 use Rattle.format.specs.ColorTable.{digits}
-use Rattle.color_table.proofs.Digits.{digits_none}
-use Rattle.item.proofs.Columns.{again_more, again_small}
 use Rattle.item.proofs.table.repeated_index.Given as goal
 
 abbrev pub invariant-loop-k : goal.invariant-loop-k

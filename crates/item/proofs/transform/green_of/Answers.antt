@@ -1,5 +1,4 @@
 -- `green_of` meets its contract, whether the item is made or missing.
-use borrow.Author.Rules.{rules}
 use Rattle.item.proofs.WhenMade.{mapped_missing, mapped_item}
 use Rattle.item.proofs.transform.green_of.Goals as goal
 

@@ -1,5 +1,4 @@
 -- `residual_of` meets its contract: the first that is missing decides.
-use borrow.Author.Rules.{rules}
 use Rattle.item.specs.Made.{residual_made, when_made}
 use Rattle.item.proofs.transform.residual_of.Goals as goal
 

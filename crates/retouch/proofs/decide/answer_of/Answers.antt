@@ -1,6 +1,5 @@
 -- `answer_of` meets its contract: five bits have at most five ones.
 use native.Mathlib.Omega.{arith}
-use borrow.Author.Rules.{rules}
 use lib.Count.{ones-le}
 use Rattle.retouch.proofs.decide.answer_of.Goals as goal
 

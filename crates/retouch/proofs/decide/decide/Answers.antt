@@ -1,7 +1,6 @@
 -- `decide` meets its contract: 22, or the mask of the records that were made.
 use mathlib.Core.Path.{refl}
 use native.Mathlib.Omega.{arith}
-use borrow.Author.Rules.{rules}
 use Rattle.chain.proofs.Valid.{pixels_few, records_few}
 use Rattle.retouch.proofs.Follow.{valid_followed}
 use Rattle.retouch.proofs.Deciding.{decided_refused, decided_made}

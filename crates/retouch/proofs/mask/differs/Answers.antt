@@ -1,6 +1,5 @@
 -- `differs` meets its contract.
 use mathlib.Core.Path.{refl}
-use borrow.Author.Rules.{rules}
 use borrow.Author.Tests.{lt-ltb, le-ltb}
 use Rattle.retouch.proofs.mask.differs.Goals as goal
 

@@ -1,7 +1,6 @@
 -- `mark` meets its contract.
 use mathlib.Core.Path.{refl}
 use native.Mathlib.Omega.{arith}
-use borrow.Author.Rules.{rules}
 use Rattle.retouch.proofs.mask.mark.Goals as goal
 
 pub returns-then-not-differs : goal.returns-then-not-differs

@@ -1,10 +1,7 @@
 -- `mask_of` meets its contract: before each turn the mask is that of the spots from place k on, moved down by k bits.
-use Prim.Native.Nat.{◌-◌, ◌^◌, ◌<◌, ◌≤◌}
 use native.Mathlib.Omega.{arith}
 use lib.Pow.{pow_pos}
-use borrow.Author.Rules.{rules}
-use Rattle.format.specs.Picture.{pixels}
-use Rattle.retouch.proofs.Marked.{MaskFrom, mask_none, mask_more, mask_whole, mask_grows, mask_small}
+use Rattle.retouch.proofs.Marked.{mask_none, mask_more, mask_whole, mask_grows, mask_small}
 use Rattle.retouch.proofs.mask.mask_of.Goals as goal
 
 pub loop-k-init : goal.loop-k-init

@@ -1,10 +1,7 @@
 -- `seen` meets its contract: before each turn the record is none of those from place j on.
-use mathlib.Core.Path.{◌≡◌, refl, sym, ◌∙◌}
-use Prim.Native.Nat.{◌≤◌}
+use mathlib.Core.Path.{refl, sym, ◌∙◌}
 use native.Mathlib.Omega.{arith}
 use lib.ListN.{get_or}
-use Rattle.format.specs.Indices.{among}
-use Rattle.retouch.specs.Remade.{seen_before}
 use Rattle.retouch.proofs.Marked.{seen_hit, seen_missed, seen_none}
 use Rattle.retouch.proofs.mask.seen.Goals as goal
 

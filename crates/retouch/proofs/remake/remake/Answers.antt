@@ -1,14 +1,9 @@
 -- `remake` meets its contract: before each turn none of the first k spots' records is missing, and those are made.
-use mathlib.Core.Path.{◌≡◌, refl, sym, ◌∙◌}
-use Prim.Native.Nat.{◌-◌, ◌≤◌}
+use mathlib.Core.Path.{refl, sym, ◌∙◌}
 use native.Mathlib.Omega.{arith}
-use borrow.Author.Rules.{rules}
-use lib.ListN.{length, length-set}
-use Rattle.chain.specs.Valid.{records_in, stored_by}
-use Rattle.item.specs.Source.{shown}
+use lib.ListN.{length-set}
 use Rattle.item.proofs.WhenMade.{made-item}
-use Rattle.retouch.specs.Remade.{MadeTo}
-use Rattle.retouch.proofs.Making.{SpotsPassed, passed_more, remade_refused, remade_all, to_none, to_more}
+use Rattle.retouch.proofs.Making.{passed_more, remade_refused, remade_all, to_none, to_more}
 use Rattle.retouch.proofs.remake.remake.Goals as goal
 
 pub loop-k-init : goal.loop-k-init

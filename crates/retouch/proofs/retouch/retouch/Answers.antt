@@ -1,6 +1,5 @@
 -- `retouch` meets its contract, test by test.
 use native.Mathlib.Omega.{arith}
-use borrow.Author.Rules.{rules}
 use Rattle.retouch.proofs.Answers.{refused_pair, refused_column, refused_row, index_inside, index_small, answered}
 use Rattle.retouch.proofs.retouch.retouch.Goals as goal
 

@@ -1,6 +1,5 @@
 -- `retouch_valid` meets its contract: what was decided is written, and nothing where that is a refusal.
 use mathlib.Core.Path.{refl}
-use borrow.Author.Rules.{rules}
 use Rattle.chain.proofs.Valid.{records_few}
 use Rattle.retouch.proofs.Deciding.{left_refused, left_picture, left_strip}
 use Rattle.retouch.proofs.retouch.retouch_valid.Goals as goal

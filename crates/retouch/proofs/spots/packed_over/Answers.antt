@@ -1,7 +1,6 @@
 -- `packed_over` meets its contract: no packed pixel's number is larger than those of the items that it holds.
 use mathlib.Core.Path.{◌∙◌}
 use native.Mathlib.Omega.{arith}
-use borrow.Author.Rules.{rules}
 use Rattle.retouch.proofs.Follow.{packed_less, packed_fewer}
 use Rattle.retouch.proofs.spots.packed_over.Goals as goal
 

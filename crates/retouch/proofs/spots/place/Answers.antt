@@ -1,7 +1,6 @@
 -- `place` meets its contract.
 use mathlib.Core.Path.{refl}
 use native.Mathlib.Omega.{arith}
-use borrow.Author.Rules.{rules}
 use borrow.Author.Tests.{eq-eqb, ne_eqb}
 use Rattle.retouch.proofs.spots.place.Goals as goal
 

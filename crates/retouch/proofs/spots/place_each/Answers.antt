@@ -1,5 +1,4 @@
 -- `place_each` meets its contract.
-use borrow.Author.Rules.{rules}
 use Rattle.retouch.proofs.spots.place_each.Goals as goal
 
 pub returns : goal.returns

@@ -1,13 +1,11 @@
 -- `spots_of` meets its contract: before each turn the spots are those after the first k records. A predictor meets one,
 -- since no other was before it.
 use mathlib.Core.List.{[], ◌∷◌}
-use mathlib.Core.Path.{◌≡◌, refl}
+use mathlib.Core.Path.{◌≡◌}
 use Prim.Native.Nat.{◌≤◌, ◌-◌}
-use native.Mathlib.Omega.{arith}
 use Rattle.format.specs.Retouch.{spot_records}
 use Rattle.chain.specs.Valid.{steps_of}
 use Rattle.retouch.specs.Spots.{Sound, records_of, first_of}
-use Rattle.retouch.proofs.Follow.{first_spot, spots_more, one_taken}
 use Rattle.retouch.proofs.spots.spots_of.Given as goal
 
 abbrev pub invariant-loop-k : goal.invariant-loop-k

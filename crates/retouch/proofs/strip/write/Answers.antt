@@ -1,9 +1,7 @@
 -- `write` meets its contract: before each turn the strip has the records of the spots from place k on.
-use mathlib.Core.Path.{◌≡◌, refl}
-use Prim.Native.Nat.{◌≤◌}
+use mathlib.Core.Path.{refl}
 use native.Mathlib.Omega.{arith}
-use lib.ListN.{length}
-use Rattle.retouch.proofs.Writing.{WrittenFrom, from_none, from_more, from_all}
+use Rattle.retouch.proofs.Writing.{from_none, from_more, from_all}
 use Rattle.retouch.proofs.strip.write.Goals as goal
 
 pub loop-k-init : goal.loop-k-init

@@ -1,9 +1,8 @@
 -- `write` meets its contract: before each turn the strip has the records of the spots from place k on.
-use mathlib.Core.Path.{◌≡◌, refl}
+use mathlib.Core.Path.{◌≡◌}
 use Prim.Native.Nat.{◌≤◌}
-use native.Mathlib.Omega.{arith}
 use lib.ListN.{length}
-use Rattle.retouch.proofs.Writing.{WrittenFrom, from_none, from_more, from_all}
+use Rattle.retouch.proofs.Writing.{WrittenFrom}
 use Rattle.retouch.proofs.strip.write.Given as goal
 
 abbrev pub invariant-loop-k : goal.invariant-loop-k

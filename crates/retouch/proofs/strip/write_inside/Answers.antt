@@ -1,6 +1,5 @@
 -- `write_inside` meets its contract.
 use mathlib.Core.Path.{refl}
-use borrow.Author.Rules.{rules}
 use borrow.Author.Tests.{lt-ltb, le-ltb}
 use Rattle.retouch.proofs.strip.write_inside.Goals as goal
 

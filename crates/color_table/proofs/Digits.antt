@@ -1,4 +1,5 @@
 -- Indices packed into a byte, lowest first.
+use Rattle.std.specs.Prelude.{if◌then◌else◌}
 use mathlib.Core.Bool.{Bool, true, false}
 use mathlib.Core.List.{List}
 use mathlib.Core.Path.{◌≡◌, refl, sym, ap, ◌∙◌}
@@ -8,7 +9,6 @@ use native.Mathlib.Omega.{arith}
 use borrow.Author.Tests.{leb-true, leb-false}
 use lib.Dec.{leb, lit<}
 use lib.ListN.{length}
-use Rattle.format.specs.Choice.{if◌then◌else◌}
 use Rattle.format.specs.ColorTable.{per_pixel, range, digits}
 use Rattle.pixel.specs.Stride.{Places}
 use Rattle.pixel.proofs.Places.{places_1, places_2, places_4, places_8}
@@ -34,7 +34,7 @@ base_of size n u l p q =
     rw (q, p) (go (leb size 2) (leb size 4) (leb size 16) (leb-true size 2) (leb-false size 2) (leb-true size 4) (leb-true size 16))
   where
     go : (a b c : Bool) → (a ≡ true → size ≤ 2) → (a ≡ false → 2 < size) → (b ≡ true → size ≤ 4) → (c ≡ true → size ≤ 16)
-        → Base size (if a then 8 else if b then 4 else if c then 2 else 1) (range (if a then 8 else if b then 4 else if c then 2 else 1))
+        → Base size (if a then 8 else (if b then 4 else (if c then 2 else 1))) (range (if a then 8 else (if b then 4 else (if c then 2 else 1))))
     go true b c x o y z = record { fits = x refl; two = lit< tt; most = lit< tt; some = lit< tt; few = lit< tt; whole = refl; group = refl; places = places_8; pairs = λ q. omega arith; ones = λ x h. (omega arith, omega arith) }
     go false true c x o y z = record { fits = y refl; two = lit< tt; most = lit< tt; some = lit< tt; few = lit< tt; whole = refl; group = refl; places = places_4; pairs = λ q. (let t = o refl in omega arith); ones = λ x h. (omega arith, omega arith) }
     go false false true x o y z = record { fits = z refl; two = lit< tt; most = lit< tt; some = lit< tt; few = lit< tt; whole = refl; group = refl; places = places_2; pairs = λ q. omega arith; ones = λ x h. (omega arith, omega arith) }

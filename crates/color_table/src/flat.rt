@@ -1,7 +1,6 @@
 // Storing where a table has at most four entries: indices by comparing with each entry, with no branch, four records at
 // a time, so that they are compared at once.
-ghost use Rattle.std.specs.Prelude.{◌≡◌, ◌+◌, ◌*◌, ◌<◌, ◌≤◌, length};
-ghost use Rattle.format.specs.Choice.{if◌then◌else◌};
+ghost use Rattle.std.specs.Prelude.{◌≡◌, ◌+◌, ◌*◌, ◌<◌, ◌≤◌, length, if◌then◌else◌};
 ghost use Rattle.format.specs.Picture.{pixels};
 ghost use Rattle.format.specs.ColorTable.{packed_width, index_of};
 ghost use Rattle.pixel.specs.Word.{unword};

@@ -1,13 +1,13 @@
 -- Any set of changed pixels: where a strip is a picture stored, making afresh the records of the changed pixels' spots
 -- makes the changed picture's strip, and the marks of those that changed count every record in which the two strips
 -- differ. ps are the changed pixels.
+use Rattle.std.specs.Prelude.{if◌then◌else◌}
 use mathlib.Core.Bool.{Bool, true, false, not, ◌&&◌, false≢true}
 use mathlib.Core.List.{List, []}
 use mathlib.Core.Path.{◌≡◌, refl, sym, ◌∙◌}
 use Prim.Native.Nat.{ℕ, ◌<◌}
 use borrow.Author.Tests.{ltb-true, not-true}
 use lib.Dec.{ltb}
-use Rattle.format.specs.Choice.{if◌then◌else◌}
 use Rattle.format.specs.Indices.{among, how_many}
 use Rattle.format.specs.Pixel.{equal}
 use Rattle.format.specs.Picture.{Picture}

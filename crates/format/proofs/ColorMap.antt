@@ -1,4 +1,5 @@
 -- Laws of the color map: adjusting and its undoing are inverse, byte by byte and of whole maps.
+use Rattle.std.specs.Prelude.{if◌then◌else◌}
 use mathlib.Core.Bool.{Bool, true, false, not, ◌||◌}
 use mathlib.Core.List.{List}
 use mathlib.Core.Path.{◌≡◌, refl, ap, ◌∙◌}
@@ -10,7 +11,6 @@ use borrow.Author.Tests.{lt-ltb, le-ltb, ltb-false, eqb-true, eqb-false}
 use lib.ListN.{length}
 use lib.Seq.{ext_get_or}
 use lib.Dec.{eqb, ltb}
-use Rattle.format.specs.Choice.{if◌then◌else◌}
 use Rattle.format.specs.Byte.{add, sub}
 use Rattle.format.specs.Picture.{byte_at, written_bytes}
 use Rattle.format.specs.ColorMap.{adjusted, unadjusted, refused, adjust_color_map, unadjust_color_map}

@@ -1,5 +1,6 @@
 -- Laws of the color table: what was packed is found again, digit by digit, and the entry at a pixel's index is that
 -- pixel.
+use Rattle.std.specs.Prelude.{if◌then◌else◌}
 use mathlib.Core.Bool.{Bool, true, false}
 use mathlib.Core.Path.{◌≡◌, refl, sym, ap, ◌∙◌}
 use Prim.Native.Nat.{ℕ, zero, suc, ◌+◌, ◌-◌, ◌*◌, ◌/◌, ◌%◌, ◌^◌, ◌<◌, ◌≤◌}
@@ -10,7 +11,6 @@ use native.Mathlib.Omega.{arith}
 use borrow.Author.Tests.{ltb-true, leb-true, lt-ltb, le-ltb}
 use lib.Arith.{digits_lt, digits_div, digits_mod}
 use lib.Dec.{ltb, leb, lit<}
-use Rattle.format.specs.Choice.{if◌then◌else◌}
 use Rattle.format.specs.declared.Pixel.{Pixel}
 use Rattle.format.specs.Pixel.{equal}
 use Rattle.format.specs.Picture.{Picture, ceiling}
@@ -110,7 +110,7 @@ unfolding per_pixel
 bundled size l =
     go (leb size 2) (leb size 4) (leb size 16) (leb-true size 2) (leb-true size 4) (leb-true size 16)
   where
-    go : (a b c : Bool) → (a ≡ true → size ≤ 2) → (b ≡ true → size ≤ 4) → (c ≡ true → size ≤ 16) → Bundled size (if a then 8 else if b then 4 else if c then 2 else 1)
+    go : (a b c : Bool) → (a ≡ true → size ≤ 2) → (b ≡ true → size ≤ 4) → (c ≡ true → size ≤ 16) → Bundled size (if a then 8 else (if b then 4 else (if c then 2 else 1)))
     go true b c x y z = record { fits = x refl; whole = refl; some = lit< tt; many = lit< tt }
     go false true c x y z = record { fits = y refl; whole = refl; some = lit< tt; many = lit< tt }
     go false false true x y z = record { fits = z refl; whole = refl; some = lit< tt; many = lit< tt }
@@ -120,7 +120,7 @@ pub per_pixel_pos : (size : ℕ) → 0 < per_pixel size
 unfolding per_pixel
 per_pixel_pos size = go (leb size 2) (leb size 4) (leb size 16)
   where
-    go : (a b c : Bool) → 0 < (if a then 8 else if b then 4 else if c then 2 else 1)
+    go : (a b c : Bool) → 0 < (if a then 8 else (if b then 4 else (if c then 2 else 1)))
     go true b c = lit< tt
     go false true c = lit< tt
     go false false true = lit< tt

@@ -1,4 +1,5 @@
 -- The demands of document 00, as specs/Promises.antt states them, proved.
+use Rattle.std.specs.Prelude.{if◌then◌else◌}
 use mathlib.Core.Bool.{Bool, true, false, true≢false}
 use mathlib.Core.List.{List, []}
 use mathlib.Core.Logic.{◌⊎◌, inl, inr, ◌↔◌}
@@ -7,7 +8,6 @@ use Prim.Native.Nat.{ℕ, ◌+◌, ◌*◌, ◌≤◌}
 use native.Mathlib.Nat.{le_refl, le_trans}
 use native.Mathlib.Omega.{arith}
 use lib.ListN.{length, drop}
-use Rattle.format.specs.Choice.{if◌then◌else◌}
 use Rattle.format.specs.Picture.{Picture, byte_at, pixels, written, written_bytes}
 use Rattle.format.specs.ColorMap.{adjusted, unadjusted, refused, color_map_answer, adjust_color_map, unadjust_color_map}
 use Rattle.format.specs.Chain.{record_at, step_at, count}

@@ -1,4 +1,5 @@
 -- Strips stored earlier rebuild: a pixel's index is in its own position by both rules, and unpacking looks at no other.
+use Rattle.std.specs.Prelude.{if◌then◌else◌}
 use mathlib.Core.Bool.{Bool, true, false}
 use mathlib.Core.List.{List}
 use mathlib.Core.Path.{◌≡◌, refl, sym, ap, ◌∙◌}
@@ -9,7 +10,6 @@ use native.Mathlib.Omega.{arith}
 use borrow.Author.Tests.{ltb-true, lt-ltb, ne_eqb}
 use lib.Dec.{ltb}
 use lib.ListN.{length}
-use Rattle.format.specs.Choice.{if◌then◌else◌}
 use Rattle.format.specs.declared.Step.{Step}
 use Rattle.format.specs.Picture.{Picture, pixels, written}
 use Rattle.format.specs.ColorTable.{per_pixel, range, packed_width, index_of, have_entries, packed, unpacked}

@@ -1,10 +1,10 @@
 -- Further pictures, worked out from document 01: retouches, refusals 9 and 22, and a list of calls beside the desk.
+use Rattle.std.specs.Prelude.{if◌then◌else◌}
 use mathlib.Core.List.{List, [], ◌∷◌, ◌++◌, map}
 use mathlib.Core.Path.{◌≡◌, refl}
 use Prim.Native.Nat.{ℕ, zero, suc, ◌+◌, ◌*◌}
 use lib.Dec.{eqb}
 use lib.ListN.{take}
-use Rattle.format.specs.Choice.{if◌then◌else◌}
 use Rattle.format.specs.Indices.{among, union}
 use Rattle.format.specs.declared.Pixel.{Pixel}
 use Rattle.format.specs.declared.Made.{Made}

@@ -1,10 +1,10 @@
 -- Lists of calls: what holds of each call carries to every list, by induction on the list.
+use Rattle.std.specs.Prelude.{if◌then◌else◌}
 use mathlib.Core.Bool.{Bool, true, false}
 use mathlib.Core.List.{List, [], ◌∷◌}
 use mathlib.Core.Path.{◌≡◌, refl, sym, ap, ◌∙◌}
 use Prim.Native.Nat.{ℕ, ◌+◌}
 use native.Mathlib.Nat.{add-zero, add_assoc}
-use Rattle.format.specs.Choice.{if◌then◌else◌}
 use Rattle.format.specs.Refusals.{accepted}
 use Rattle.format.specs.Lists.{Machine, in_turn, left_by, answers_to, accepted_calls, total}
 

@@ -1,4 +1,5 @@
 -- Laws of the call that reports: which numbers it answers, when it accepts, and what it adds.
+use Rattle.std.specs.Prelude.{if◌then◌else◌}
 use mathlib.Core.Bool.{Bool, true, false, ◌&&◌}
 use mathlib.Core.List.{List}
 use mathlib.Core.Logic.{inl, inr, ◌↔◌}
@@ -10,7 +11,7 @@ use native.Mathlib.Omega.{arith}
 use borrow.Author.Tests.{leb-true, le-leb, ltb-true, lt-ltb, le-ltb}
 use lib.Dec.{ltb, lit<}
 use lib.ListN.{length, drop}
-use Rattle.format.specs.Choice.{if◌then◌else◌, every}
+use Rattle.format.specs.Choice.{every}
 use Rattle.format.specs.Picture.{pixels}
 use Rattle.format.specs.Refusals.{size_refusal, accepted, in_range, ◌unless◌}
 use Rattle.format.specs.Calls.{holds}

@@ -1,5 +1,6 @@
 -- A retouch answers and leaves what the plain desk does, where the strip is the picture stored; so every list of
 -- retouches does (Lists).
+use Rattle.std.specs.Prelude.{if◌then◌else◌}
 use mathlib.Core.Bool.{Bool, true, false, not, ◌&&◌, false≢true}
 use mathlib.Core.List.{List, [], ◌∷◌}
 use mathlib.Core.Path.{◌≡◌, refl, sym, ap, ◌∙◌}
@@ -10,7 +11,6 @@ use borrow.Author.Tests.{ltb-true}
 use lib.Arith.{digits_lt}
 use lib.Dec.{ltb}
 use lib.ListN.{length}
-use Rattle.format.specs.Choice.{if◌then◌else◌}
 use Rattle.format.specs.Indices.{how_many}
 use Rattle.format.specs.Picture.{Picture, pixels, written}
 use Rattle.format.specs.Chain.{step_at, count}

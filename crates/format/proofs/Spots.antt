@@ -1,5 +1,6 @@
 -- Document 01's words on spots: five at the predictor's stage, and the record that holds each; one record without a
 -- predictor; inside and outside; and a prediction looks at what it names alone.
+use Rattle.std.specs.Prelude.{if◌then◌else◌}
 use mathlib.Core.Bool.{Bool, true, false, not}
 use mathlib.Core.List.{List, [], ◌∷◌, map, map-map, map-id}
 use mathlib.Core.Logic.{⊎_elim, ◌↔◌}
@@ -12,7 +13,7 @@ use borrow.Author.Tests.{ne_eqb, le-leb, lt-leb, eqb-true, eqb-false, not-true, 
 use lib.Arith.{digits_lt, digits_div}
 use lib.Dec.{eqb, leb}
 use lib.ListN.{length, get_or}
-use Rattle.format.specs.Choice.{if◌then◌else◌, every}
+use Rattle.format.specs.Choice.{every}
 use Rattle.format.specs.Indices.{union}
 use Rattle.format.specs.declared.Pixel.{Pixel}
 use Rattle.format.specs.declared.Step.{Step}

@@ -1,4 +1,5 @@
 -- Laws of a chain's stages: widths shrink, and each stage depends on the pixels inside alone.
+use Rattle.std.specs.Prelude.{if◌then◌else◌}
 use mathlib.Core.Bool.{Bool, true, false}
 use mathlib.Core.List.{List}
 use mathlib.Core.Path.{◌≡◌, refl, ap, subst}
@@ -6,7 +7,6 @@ use Prim.Native.Nat.{ℕ, zero, suc, ◌+◌, ◌-◌, ◌*◌, ◌<◌, ◌≤�
 use native.Mathlib.Nat.{le_refl, le_trans, suc-mul, div-lt_iff_lt-mul, le_of_suc-le-suc, le-mul_of_pos_right, zero-add}
 use native.Mathlib.Omega.{arith}
 use lib.Dec.{eqb}
-use Rattle.format.specs.Choice.{if◌then◌else◌}
 use Rattle.format.specs.declared.Step.{Step}
 use Rattle.format.specs.Picture.{Picture, ceiling}
 use Rattle.format.specs.ColorTable.{per_pixel, packed_width, has_entry}

@@ -1,6 +1,7 @@
 -- Refusal 22 in document 01's words: a record cannot be made exactly if a pixel without entry reaches the table inside
 -- it or, where the table comes before the predictor, inside a packed pixel that its prediction names. Only a table
 -- loses items, and the records after it look at one item each, but for the predictor, which looks at what it names.
+use Rattle.std.specs.Prelude.{if◌then◌else◌}
 use mathlib.Core.Bool.{Bool, true, false, not, false≢true, true≢false}
 use mathlib.Core.List.Memᴰ
 use mathlib.Core.List.{List, [], ◌∷◌}
@@ -10,7 +11,6 @@ use Prim.Native.Nat.{ℕ, zero, suc, ◌+◌, ◌-◌, ◌*◌, ◌/◌, ◌%◌
 use native.Mathlib.Omega.{arith}
 use borrow.Author.Tests.{ltb-true, ltb-false, ne_eqb, not-true}
 use lib.Dec.{ltb}
-use Rattle.format.specs.Choice.{if◌then◌else◌}
 use Rattle.format.specs.declared.Pixel.{Pixel}
 use Rattle.format.specs.declared.Step.{Step}
 use Rattle.format.specs.Picture.{Picture}

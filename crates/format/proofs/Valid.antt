@@ -1,4 +1,5 @@
 -- What refusal 0 gives: a valid chain's sizes and records, and how the refusal of a chain is found record by record.
+use Rattle.std.specs.Prelude.{if◌then◌else◌}
 use mathlib.Core.Bool.{Bool, true, false, not, ◌&&◌}
 use mathlib.Core.List.{List}
 use mathlib.Core.Path.{◌≡◌, refl, sym, ap, ◌∙◌}
@@ -8,7 +9,7 @@ use native.Mathlib.Omega.{arith}
 use borrow.Author.Tests.{ltb-false, leb-true, eqb-true, eqb-false, ne_eqb, not-true, not-false}
 use lib.Dec.{eqb, leb, ltb}
 use lib.ListN.{length}
-use Rattle.format.specs.Choice.{if◌then◌else◌, every}
+use Rattle.format.specs.Choice.{every}
 use Rattle.format.specs.declared.Step.{Step}
 use Rattle.format.specs.declared.Checked.TheVariants.{Taken, UnknownKind, KindAgain, NotTabled, WrongLength, BeyondData}
 use Rattle.format.specs.Picture.{byte_at}
@@ -55,7 +56,7 @@ module _ (again : Bool) (h : ℕ) (ds : List ℕ) (s : Step) where
   passed = go (ltb 3 s.kind) again (tabled s) (eqb s.length (tabled_length s h)) (ltb (length ds) (s.offset + s.length)) refl refl refl refl refl
     where
       go : (a b c d e : Bool) → ltb 3 s.kind ≡ a → again ≡ b → tabled s ≡ c → eqb s.length (tabled_length s h) ≡ d → ltb (length ds) (s.offset + s.length) ≡ e
-          → number (if a then UnknownKind else if b then KindAgain else if not c then NotTabled else if not d then WrongLength else if e then BeyondData else Taken s) ≡ 0
+          → number (if a then UnknownKind else (if b then KindAgain else (if not c then NotTabled else (if not d then WrongLength else (if e then BeyondData else Taken s))))) ≡ 0
           → Passed again h ds s
       go true b c d e p q r t u z = absurd (omega arith)
       go false true c d e p q r t u z = absurd (omega arith)

@@ -1,6 +1,5 @@
 -- Byte arithmetic (document 01, module 1). A byte is a number below 256. `-` on numbers stops at 0.
-use Rattle.std.specs.Prelude.{ℕ, ◌+◌, ◌-◌, ◌/◌, ◌%◌, min, ltb, ℤ, pos, negsuc, ◌*ℤ◌}
-use Rattle.format.specs.Choice.{if◌then◌else◌}
+use Rattle.std.specs.Prelude.{ℕ, ◌+◌, ◌-◌, ◌/◌, ◌%◌, min, ltb, ℤ, pos, negsuc, ◌*ℤ◌, if◌then◌else◌}
 
 -- sums and differences are taken modulo 256
 abbrev pub add : ℕ → ℕ → ℕ

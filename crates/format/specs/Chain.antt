@@ -1,7 +1,6 @@
 -- Chains (document 01, "Pictures, strips, chains"): the records in a chain's bytes. cs is the chain, w the picture's
 -- width.
-use Rattle.std.specs.Prelude.{List, ℕ, zero, suc, ◌+◌, ◌*◌, ◌/◌, eqb, length}
-use Rattle.format.specs.Choice.{if◌then◌else◌}
+use Rattle.std.specs.Prelude.{List, ℕ, zero, suc, ◌+◌, ◌*◌, ◌/◌, eqb, length, if◌then◌else◌}
 use Rattle.format.specs.declared.Step.{Step}
 use Rattle.format.specs.Picture.{byte_at}
 use Rattle.format.specs.ColorTable.{packed_width}
@@ -29,9 +28,9 @@ record_at cs k x = record {
 unfoldable pub by_kind : {A : Type 0} → ℕ → A → A → A → A → A
 by_kind k predictor color green table =
     if eqb k 0 then predictor
-    else if eqb k 1 then color
-    else if eqb k 2 then green
-    else table
+    else (if eqb k 1 then color
+    else (if eqb k 2 then green
+    else table))
 
 -- the current width after a record: kind 3 alone changes it
 unfoldable pub narrowed : Step → ℕ

@@ -1,10 +1,5 @@
--- A choice by a test.
-use Rattle.std.specs.Prelude.{Bool, true, false, ◌&&◌, ℕ, zero, suc}
-
-infixr 1 if◌then◌else◌
-abbrev pub if◌then◌else◌ : {A : Type 0} → Bool → A → A → A
-if true then x else y = x
-if false then x else y = y
+-- What tests give.
+use Rattle.std.specs.Prelude.{Bool, true, ◌&&◌, ℕ, zero, suc, if◌then◌else◌}
 
 -- 1 for true, 0 for false
 abbrev pub bit : Bool → ℕ

@@ -1,6 +1,5 @@
 -- The color map, which the file stores as differences of entries (document 01, module 7), and its two calls.
-use Rattle.std.specs.Prelude.{Bool, not, ◌||◌, List, ℕ, zero, suc, ◌+◌, ◌-◌, ◌%◌, eqb, ltb, length}
-use Rattle.format.specs.Choice.{if◌then◌else◌}
+use Rattle.std.specs.Prelude.{Bool, not, ◌||◌, List, ℕ, zero, suc, ◌+◌, ◌-◌, ◌%◌, eqb, ltb, length, if◌then◌else◌}
 use Rattle.format.specs.Byte.{add, sub}
 use Rattle.format.specs.Picture.{byte_at, written_bytes}
 

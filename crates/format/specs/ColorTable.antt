@@ -1,14 +1,14 @@
 -- The color indexing transform (RFC 9649, "Color Indexing Transform"; document 01, module 4). `size` is how many
 -- entries the table has, `e` gives them.
-use Rattle.std.specs.Prelude.{Bool, ℕ, zero, suc, ◌+◌, ◌-◌, ◌*◌, ◌/◌, ◌%◌, ◌^◌, leb, ltb}
-use Rattle.format.specs.Choice.{if◌then◌else◌, every}
+use Rattle.std.specs.Prelude.{Bool, ℕ, zero, suc, ◌+◌, ◌-◌, ◌*◌, ◌/◌, ◌%◌, ◌^◌, leb, ltb, if◌then◌else◌}
+use Rattle.format.specs.Choice.{every}
 use Rattle.format.specs.declared.Pixel.{Pixel}
 use Rattle.format.specs.Pixel.{pixel, clear, equal}
 use Rattle.format.specs.Picture.{Picture, ceiling}
 
 -- how many indices a packed pixel holds
 unfoldable pub per_pixel : ℕ → ℕ
-per_pixel size = if leb size 2 then 8 else if leb size 4 then 4 else if leb size 16 then 2 else 1
+per_pixel size = if leb size 2 then 8 else (if leb size 4 then 4 else (if leb size 16 then 2 else 1))
 
 -- how many bits an index has where a packed pixel holds n, 8 >> width_bits in the RFC's terms; and one more than the
 -- largest index

@@ -1,6 +1,5 @@
 -- The plain desk (document 01, module 6), and the call beside it, as machines that take lists of retouches.
-use Rattle.std.specs.Prelude.{Bool, List, [], ℕ}
-use Rattle.format.specs.Choice.{if◌then◌else◌}
+use Rattle.std.specs.Prelude.{Bool, List, [], ℕ, if◌then◌else◌}
 use Rattle.format.specs.Indices.{how_many}
 use Rattle.format.specs.declared.Pixel.{Pixel}
 use Rattle.format.specs.declared.Made.TheVariants.{Missing}

@@ -1,6 +1,5 @@
 -- Lists of calls, each on what the last one left: of any state and any kind of call.
-use Rattle.std.specs.Prelude.{List, [], ◌∷◌, ℕ, ◌+◌}
-use Rattle.format.specs.Choice.{if◌then◌else◌}
+use Rattle.std.specs.Prelude.{List, [], ◌∷◌, ℕ, ◌+◌, if◌then◌else◌}
 use Rattle.format.specs.Refusals.{accepted}
 
 -- what a call c answers where the state is s, and the state that it leaves

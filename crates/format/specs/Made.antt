@@ -1,7 +1,6 @@
 -- What the items of a stage are made of, and when one cannot be made (document 01, refusal 22). An item is a pixel of a
 -- picture or a record of a strip.
-use Rattle.std.specs.Prelude.{Bool, true, false, not, ◌||◌, List, [], ◌∷◌, ℕ, zero, suc, ◌+◌, ◌*◌, ◌/◌, ◌%◌, eqb, ltb, get_or}
-use Rattle.format.specs.Choice.{if◌then◌else◌}
+use Rattle.std.specs.Prelude.{Bool, true, false, not, ◌||◌, List, [], ◌∷◌, ℕ, zero, suc, ◌+◌, ◌*◌, ◌/◌, ◌%◌, eqb, ltb, get_or, if◌then◌else◌}
 use Rattle.format.specs.Indices.{some}
 use Rattle.format.specs.declared.Pixel.{Pixel}
 use Rattle.format.specs.declared.Step.{Step}
@@ -40,8 +39,8 @@ named_by mode l t tr tl = get_or (mode_names l t tr tl) mode []
 unfoldable pub named : ℕ → ℕ → Picture → ℕ → ℕ → List ℕ
 named w bits d x y =
     if eqb y 0 then (if eqb x 0 then [] else left w index x y ∷ [])
-    else if eqb x 0 then top w index x y ∷ []
-    else named_by (mode w bits d x y) (left w index x y) (top w index x y) (top_right w index x y) (top_left w index x y)
+    else (if eqb x 0 then top w index x y ∷ []
+    else named_by (mode w bits d x y) (left w index x y) (top w index x y) (top_right w index x y) (top_left w index x y))
 
 -- the items that a packed pixel holds: of row y, up to n columns from x on
 unfoldable pub columns : ℕ → ℕ → ℕ → ℕ → List ℕ

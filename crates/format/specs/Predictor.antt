@@ -1,6 +1,5 @@
 -- The predictor transform (RFC 9649, "Predictor Transform"; document 01, module 2).
-use Rattle.std.specs.Prelude.{List, [], ◌∷◌, ℕ, ◌+◌, ◌-◌, ◌*◌, ◌/◌, ◌%◌, eqb, ltb, get_or}
-use Rattle.format.specs.Choice.{if◌then◌else◌}
+use Rattle.std.specs.Prelude.{List, [], ◌∷◌, ℕ, ◌+◌, ◌-◌, ◌*◌, ◌/◌, ◌%◌, eqb, ltb, get_or, if◌then◌else◌}
 use Rattle.format.specs.declared.Pixel.{Pixel}
 use Rattle.format.specs.Byte.{add, sub, avg, distance, clamp_full, clamp_half}
 use Rattle.format.specs.Pixel.{black, clear, each, each3}
@@ -69,8 +68,8 @@ mode w bits d x y = (block w bits d x y).green
 unfoldable pub predicted : ℕ → ℕ → Picture → Picture → ℕ → ℕ → Pixel
 predicted w bits d f x y =
     if eqb y 0 then (if eqb x 0 then black else left w f x y)
-    else if eqb x 0 then top w f x y
-    else predict (mode w bits d x y) (left w f x y) (top w f x y) (top_right w f x y) (top_left w f x y)
+    else (if eqb x 0 then top w f x y
+    else predict (mode w bits d x y) (left w f x y) (top w f x y) (top_right w f x y) (top_left w f x y))
 
 -- storing subtracts the prediction
 unfoldable pub residuals : ℕ → ℕ → Picture → Picture → Picture

@@ -1,7 +1,7 @@
 -- Refusals 1 to 7 (document 01, "What a call returns"), each under its condition and in its order.
 -- cs is the chain, w and h the picture's width and height, ds the data.
-use Rattle.std.specs.Prelude.{Bool, not, ◌&&◌, ◌||◌, List, ◌≡◌, ℕ, zero, suc, ◌+◌, ◌*◌, ◌%◌, ◌^◌, eqb, leb, ltb, length}
-use Rattle.format.specs.Choice.{if◌then◌else◌, every}
+use Rattle.std.specs.Prelude.{Bool, not, ◌&&◌, ◌||◌, List, ◌≡◌, ℕ, zero, suc, ◌+◌, ◌*◌, ◌%◌, ◌^◌, eqb, leb, ltb, length, if◌then◌else◌}
+use Rattle.format.specs.Choice.{every}
 use Rattle.format.specs.declared.Step.{Step}
 use Rattle.format.specs.declared.Checked.{Checked}
 use Rattle.format.specs.declared.Checked.TheVariants.{Taken, UnknownKind, KindAgain, NotTabled, WrongLength, BeyondData}
@@ -36,11 +36,11 @@ tabled_length s h = by_kind s.kind (block_bytes s h) (block_bytes s h) 0 (4 * s.
 unfoldable pub checked : Bool → ℕ → List ℕ → Step → Checked
 checked again h ds s =
     if ltb 3 s.kind then UnknownKind
-    else if again then KindAgain
-    else if not (tabled s) then NotTabled
-    else if not (eqb s.length (tabled_length s h)) then WrongLength
-    else if ltb (length ds) (s.offset + s.length) then BeyondData
-    else Taken s
+    else (if again then KindAgain
+    else (if not (tabled s) then NotTabled
+    else (if not (eqb s.length (tabled_length s h)) then WrongLength
+    else (if ltb (length ds) (s.offset + s.length) then BeyondData
+    else Taken s))))
 
 -- document 01's number for what a check finds; 0 is no refusal
 abbrev pub number : Checked → ℕ

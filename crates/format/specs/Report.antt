@@ -1,7 +1,7 @@
 -- The report (document 02, i): how many pixels of each color the pictures of a shipment have. The list of colors has
 -- four bytes for each; the counters are one number of eight bytes for each color, then one for all other colors.
-use Rattle.std.specs.Prelude.{Bool, not, ◌&&◌, List, ℕ, zero, suc, ◌+◌, ◌*◌, ◌/◌, ◌%◌, ◌^◌, leb, ltb, length}
-use Rattle.format.specs.Choice.{if◌then◌else◌, every}
+use Rattle.std.specs.Prelude.{Bool, not, ◌&&◌, List, ℕ, zero, suc, ◌+◌, ◌*◌, ◌/◌, ◌%◌, ◌^◌, leb, ltb, length, if◌then◌else◌}
+use Rattle.format.specs.Choice.{every}
 use Rattle.format.specs.Indices.{how_many}
 use Rattle.format.specs.declared.Pixel.{Pixel}
 use Rattle.format.specs.Pixel.{equal}

@@ -1,6 +1,6 @@
 -- Retouching (document 01, module 6): the records of a point's spots, and the mask of those that changed.
-use Rattle.std.specs.Prelude.{Bool, not, ◌&&◌, List, [], ◌∷◌, ℕ, zero, suc, ◌+◌, ◌-◌, ◌*◌, ◌/◌, ◌%◌, eqb, ltb}
-use Rattle.format.specs.Choice.{if◌then◌else◌, bit}
+use Rattle.std.specs.Prelude.{Bool, not, ◌&&◌, List, [], ◌∷◌, ℕ, zero, suc, ◌+◌, ◌-◌, ◌*◌, ◌/◌, ◌%◌, eqb, ltb, if◌then◌else◌}
+use Rattle.format.specs.Choice.{bit}
 use Rattle.format.specs.Indices.{some, among, union}
 use Rattle.format.specs.declared.Step.{Step}
 use Rattle.format.specs.declared.Made.TheVariants.{Missing}

@@ -1,6 +1,5 @@
 -- What the records of a chain make of a picture: a stage for each record. ds is the data, h the picture's height.
-use Rattle.std.specs.Prelude.{Bool, true, ◌&&◌, List, ℕ, zero, suc, ◌*◌, eqb, take, drop}
-use Rattle.format.specs.Choice.{if◌then◌else◌}
+use Rattle.std.specs.Prelude.{Bool, true, ◌&&◌, List, ℕ, zero, suc, ◌*◌, eqb, take, drop, if◌then◌else◌}
 use Rattle.format.specs.declared.Step.{Step}
 use Rattle.format.specs.Picture.{Picture, pixels}
 use Rattle.format.specs.Predictor.{residuals, from_residuals}

@@ -1,4 +1,5 @@
 -- The indices that an item is made of are inside its stage.
+use Rattle.std.specs.Prelude.{if◌then◌else◌}
 use mathlib.Core.Bool.{Bool, true, false}
 use mathlib.Core.Path.{◌≡◌, refl}
 use Prim.Native.Nat.{ℕ, zero, suc, ◌+◌, ◌-◌, ◌*◌, ◌/◌, ◌%◌, ◌<◌, ◌≤◌}
@@ -6,7 +7,6 @@ use native.Mathlib.Nat.{mod-lt, div-lt_iff_lt-mul, mul-le-mul}
 use native.Mathlib.Omega.{arith}
 use lib.Dec.{eqb}
 use borrow.Author.Tests.{eq-eqb, ne_eqb, eqb-false}
-use Rattle.format.specs.Choice.{if◌then◌else◌}
 use Rattle.pixel.proofs.Blocks.{row_there}
 use Rattle.item.specs.Neighbors.{neighbor_at}
 

@@ -1,4 +1,5 @@
 -- A prediction does not look at neighbors that its mode does not name, and an item is missing if one that it names is.
+use Rattle.std.specs.Prelude.{if◌then◌else◌}
 use mathlib.Core.Bool.{Bool, true, false, not, ◌&&◌, ◌||◌}
 use mathlib.Core.List.{List, [], ◌∷◌}
 use mathlib.Core.Path.{◌≡◌, refl, sym, ap, ◌∙◌}
@@ -6,7 +7,7 @@ use Prim.Native.Nat.{ℕ, zero, suc, ◌+◌, ◌-◌, ◌*◌, ◌≤◌}
 use lib.Dec.{eqb}
 use lib.ListN.{get_or-eq_default}
 use Rattle.format.specs.declared.Pixel.{Pixel}
-use Rattle.format.specs.Choice.{if◌then◌else◌, every}
+use Rattle.format.specs.Choice.{every}
 use Rattle.format.specs.Byte.{sub}
 use Rattle.format.specs.Indices.{some, among}
 use Rattle.format.specs.Pixel.{black, clear, each}
@@ -105,14 +106,14 @@ residual_asked t f m q l tp tr tl =
 
 -- the border rule is a mode
 
-border_predict : (a b : Bool) (m : ℕ) (l t tr tl : Pixel) → (if a then (if b then black else l) else if b then t else predict m l t tr tl) ≡ predict (if a then (if b then 0 else 1) else if b then 2 else m) l t tr tl
+border_predict : (a b : Bool) (m : ℕ) (l t tr tl : Pixel) → (if a then (if b then black else l) else (if b then t else predict m l t tr tl)) ≡ predict (if a then (if b then 0 else 1) else (if b then 2 else m)) l t tr tl
 unfolding predict
 border_predict true true m l t tr tl = refl
 border_predict true false m l t tr tl = refl
 border_predict false true m l t tr tl = refl
 border_predict false false m l t tr tl = refl
 
-border_named : (a b : Bool) (m l t tr tl : ℕ) → (if a then (if b then [] else (l ∷ [])) else if b then (t ∷ []) else named_by m l t tr tl) ≡ named_by (if a then (if b then 0 else 1) else if b then 2 else m) l t tr tl
+border_named : (a b : Bool) (m l t tr tl : ℕ) → (if a then (if b then [] else (l ∷ [])) else (if b then (t ∷ []) else named_by m l t tr tl)) ≡ named_by (if a then (if b then 0 else 1) else (if b then 2 else m)) l t tr tl
 unfolding named_by
 border_named true true m l t tr tl = refl
 border_named true false m l t tr tl = refl

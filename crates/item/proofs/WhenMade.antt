@@ -1,10 +1,10 @@
 -- Laws of items that are made or missing.
+use Rattle.std.specs.Prelude.{if◌then◌else◌}
 use mathlib.Core.Bool.{Bool, true, false, not, ◌&&◌, ◌||◌}
 use mathlib.Core.Path.{◌≡◌, refl}
 use Prim.Native.Nat.{ℕ}
 use native.Mathlib.Omega.{arith}
 use Rattle.format.specs.declared.Pixel.{Pixel}
-use Rattle.format.specs.Choice.{if◌then◌else◌}
 use Rattle.format.specs.Byte.{sub}
 use Rattle.format.specs.Pixel.{clear, each}
 use Rattle.format.specs.Predictor.{predict}

@@ -1,6 +1,5 @@
 -- The neighbors L, T, TR and TL by their numbers 0 to 3, and the border rule as a mode.
-use Rattle.std.specs.Prelude.{Bool, List, [], ◌∷◌, ◌≡◌, ℕ, ◌/◌, ◌%◌, ◌^◌, ◌<◌, ◌≤◌, eqb, get_or}
-use Rattle.format.specs.Choice.{if◌then◌else◌}
+use Rattle.std.specs.Prelude.{Bool, List, [], ◌∷◌, ◌≡◌, ℕ, ◌/◌, ◌%◌, ◌^◌, ◌<◌, ◌≤◌, eqb, get_or, if◌then◌else◌}
 use Rattle.format.specs.Indices.{among}
 use Rattle.format.specs.declared.Pixel.{Pixel}
 use Rattle.format.specs.declared.Step.{Step}
@@ -36,7 +35,7 @@ neighbor_made steps ds k f mode n p =
 -- the mode that predicts column x of row y: of the first pixel 0, of the rest of row 0 and of column 0 the one that
 -- predicts L or T
 unfoldable pub mode_at : ℕ → ℕ → Picture → ℕ → ℕ → ℕ
-mode_at w bits d x y = if eqb y 0 then (if eqb x 0 then 0 else 1) else if eqb x 0 then 2 else mode w bits d x y
+mode_at w bits d x y = if eqb y 0 then (if eqb x 0 then 0 else 1) else (if eqb x 0 then 2 else mode w bits d x y)
 
 -- the same of a record s: the mode, and the data pixel of the column's block
 abbrev pub mode_of : Step → List ℕ → ℕ → ℕ → ℕ

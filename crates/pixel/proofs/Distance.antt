@@ -1,6 +1,6 @@
 -- Select by the distances of T and L from TL.
+use Rattle.std.specs.Prelude.{if◌then◌else◌}
 use Rattle.std.proofs.Common.{◌≡◌, ℕ, ◌+◌, ltb, arith}
-use Rattle.format.specs.Choice.{if◌then◌else◌}
 use Rattle.format.specs.declared.Pixel.{Pixel}
 use Rattle.format.specs.Byte.{distance}
 use Rattle.format.specs.Predictor.{select, distance_to}

@@ -1,7 +1,7 @@
 -- A run from the front of a buffer, as the definitions of `format` write it: the front replaced, the bytes beyond kept.
+use Rattle.std.specs.Prelude.{if◌then◌else◌}
 use Rattle.std.proofs.Common.{◌≡◌, ℕ, zero, suc, ◌+◌, ◌*◌, ◌<◌, ◌≤◌, Bool, List, [], ◌∷◌, length, drop, sym, refl, ap, ◌∙◌, le_refl, le_of_suc-le-suc, not-suc-le-zero, zero-add, mul-suc, arith, length-drop, ext_get_or}
 use lib.Dec.{eqb-suc-suc}
-use Rattle.format.specs.Choice.{if◌then◌else◌}
 use Rattle.format.specs.declared.Pixel.{Pixel}
 use Rattle.format.specs.Picture.{Picture, byte_at, pixels, written, written_bytes, paint, in_order}
 use Rattle.format.proofs.Picture.{written_same, length_written_bytes, byte_at_written_bytes, in_order_kept, paint_at, paint_other}

@@ -1,6 +1,5 @@
 // A pixel by value. Loops read and write whole pixels, so that a turn is one call.
-ghost use Rattle.std.specs.Prelude.{◌≡◌, ◌+◌, ◌*◌, ◌≤◌, length};
-ghost use Rattle.format.specs.Choice.{if◌then◌else◌};
+ghost use Rattle.std.specs.Prelude.{◌≡◌, ◌+◌, ◌*◌, ◌≤◌, length, if◌then◌else◌};
 ghost use Rattle.format.specs.Byte.{add, sub, avg, clamp_full, clamp_half};
 ghost use Rattle.format.specs.Pixel.{each, each3};
 ghost use Rattle.format.specs.Picture.{pixels};

@@ -1,6 +1,6 @@
 -- Mode 11: the choice between two neighbors, carried from pixel to pixel.
+use Rattle.std.specs.Prelude.{if◌then◌else◌}
 use Rattle.std.proofs.Common.{◌≡◌, ℕ, ◌+◌, ◌-◌, ◌*◌, ◌≤◌, Bool, true, false, ltb, List, length, refl, ap, ◌∙◌, arith}
-use Rattle.format.specs.Choice.{if◌then◌else◌}
 use Rattle.format.specs.declared.Pixel.{Pixel}
 use Rattle.format.specs.Picture.{pixels}
 use Rattle.format.specs.Predictor.{predict}

@@ -1,8 +1,7 @@
 -- A row in a part of the picture that holds the row above it and then the row, w pixels each: pixel w + x of the part
 -- is column x of the row.
-use Rattle.std.specs.Prelude.{◌≡◌, ℕ, ◌+◌, ◌-◌, ◌*◌, ◌/◌, ◌^◌, ◌≤◌, Bool, List, length, ◌==◌, nat_lt}
+use Rattle.std.specs.Prelude.{◌≡◌, ℕ, ◌+◌, ◌-◌, ◌*◌, ◌/◌, ◌^◌, ◌≤◌, Bool, List, length, ◌==◌, nat_lt, if◌then◌else◌}
 use Rattle.format.specs.declared.Pixel.{Pixel}
-use Rattle.format.specs.Choice.{if◌then◌else◌}
 use Rattle.format.specs.Byte.{add, sub}
 use Rattle.format.specs.Pixel.{each}
 use Rattle.format.specs.Picture.{Picture, pixels}

@@ -1,7 +1,6 @@
 // Mode 11 rebuilt in place. Which neighbor the next pixel takes is worked out for both values that this pixel can have,
 // so that the sum of distances does not wait for this pixel's choice, and no choice is a branch.
-ghost use Rattle.std.specs.Prelude.{◌≡◌, ◌+◌, ◌-◌, nat_lt};
-ghost use Rattle.format.specs.Choice.{if◌then◌else◌};
+ghost use Rattle.std.specs.Prelude.{◌≡◌, ◌+◌, ◌-◌, nat_lt, if◌then◌else◌};
 ghost use Rattle.format.specs.Byte.{add};
 ghost use Rattle.format.specs.Pixel.{each};
 ghost use Rattle.format.specs.Picture.{pixels};

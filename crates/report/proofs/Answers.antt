@@ -1,4 +1,5 @@
 -- The answer of a report and the counters that it leaves, by the test that decides.
+use Rattle.std.specs.Prelude.{if◌then◌else◌}
 use mathlib.Core.Bool.{Bool, true, false, ◌&&◌}
 use mathlib.Core.List.{List}
 use mathlib.Core.Path.{◌≡◌, refl, sym, ap, ◌∙◌}
@@ -8,7 +9,7 @@ use native.Mathlib.Omega.{arith}
 use borrow.Author.Tests.{le-leb, lt-leb}
 use lib.Dec.{leb, ltb}
 use lib.ListN.{length}
-use Rattle.format.specs.Choice.{if◌then◌else◌, every}
+use Rattle.format.specs.Choice.{every}
 use Rattle.format.specs.Picture.{pixels}
 use Rattle.format.specs.Sizes.{Sized}
 use Rattle.format.specs.ColorMap.{refused}

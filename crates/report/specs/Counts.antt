@@ -1,6 +1,6 @@
 -- Counts of a picture's pixels, and what becomes of them and of the counters.
-use Rattle.std.specs.Prelude.{Bool, true, List, ◌≡◌, ℕ, ◌+◌, ◌*◌, ◌%◌, ◌^◌, ◌<◌, ◌≤◌, eqb, ltb, length, get_or}
-use Rattle.format.specs.Choice.{if◌then◌else◌, every}
+use Rattle.std.specs.Prelude.{Bool, true, List, ◌≡◌, ℕ, ◌+◌, ◌*◌, ◌%◌, ◌^◌, ◌<◌, ◌≤◌, eqb, ltb, length, get_or, if◌then◌else◌}
+use Rattle.format.specs.Choice.{every}
 use Rattle.format.specs.Indices.{how_many}
 use Rattle.format.specs.Picture.{Picture, pixels}
 use Rattle.format.specs.ColorTable.{index_of}

@@ -1,4 +1,5 @@
 -- Laws of the records made afresh, spot by spot.
+use Rattle.std.specs.Prelude.{if◌then◌else◌}
 use mathlib.Core.Bool.{Bool, true, false, ◌&&◌}
 use mathlib.Core.List.{List}
 use mathlib.Core.Path.{◌≡◌, refl, sym, ◌∙◌}
@@ -11,7 +12,6 @@ use borrow.Author.Tests.{lt-ltb}
 use lib.Dec.{ltb}
 use lib.ListN.{length, get_or, set, take, drop}
 use lib.Seq.{get_or-set_other, get_or-set_same}
-use Rattle.format.specs.Choice.{if◌then◌else◌}
 use Rattle.format.specs.declared.Pixel.{Pixel}
 use Rattle.format.specs.declared.Made.{Made}
 use Rattle.format.specs.declared.Made.TheVariants.{Missing}

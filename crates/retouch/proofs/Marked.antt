@@ -1,4 +1,5 @@
 -- Laws of the mask: its bits from the last spot to the first.
+use Rattle.std.specs.Prelude.{if◌then◌else◌}
 use mathlib.Core.Bool.{Bool, true, false, not, ◌&&◌, ◌||◌}
 use mathlib.Core.List.{List, [], ◌∷◌}
 use mathlib.Core.Path.{◌≡◌, refl, sym, ap}
@@ -9,7 +10,6 @@ use lib.Pow.{pow_mono}
 use borrow.Author.Tests.{ltb-true, eq-eqb, ne_eqb}
 use lib.Dec.{eqb, ltb}
 use lib.ListN.{length, get_or, take, drop}
-use Rattle.format.specs.Choice.{if◌then◌else◌}
 use Rattle.format.specs.Indices.{among}
 use Rattle.format.specs.declared.Pixel.{Pixel}
 use Rattle.format.specs.Pixel.{clear, equal}

@@ -1,6 +1,5 @@
 -- What a retouch decides and leaves, where the chain is a value.
-use Rattle.std.specs.Prelude.{true, List, [], ◌∷◌, ◌≡◌, ℕ, ◌<◌}
-use Rattle.format.specs.Choice.{if◌then◌else◌}
+use Rattle.std.specs.Prelude.{true, List, [], ◌∷◌, ◌≡◌, ℕ, ◌<◌, if◌then◌else◌}
 use Rattle.format.specs.Picture.{Picture, pixels, written}
 use Rattle.format.specs.Refusals.{accepted}
 use Rattle.format.specs.Retouch.{spot_records, new_strip, point_answer}

@@ -1,6 +1,5 @@
 // The mask of the records that change: bit k is that of spot k.
-ghost use Rattle.std.specs.Prelude.{not, ◌&&◌, ◌≡◌, ◌*◌, ◌<◌, ◌≤◌, ltb, length, get_or};
-ghost use Rattle.format.specs.Choice.{if◌then◌else◌};
+ghost use Rattle.std.specs.Prelude.{not, ◌&&◌, ◌≡◌, ◌*◌, ◌<◌, ◌≤◌, ltb, length, get_or, if◌then◌else◌};
 ghost use Rattle.format.specs.Indices.{among};
 ghost use Rattle.format.specs.Pixel.{equal};
 ghost use Rattle.format.specs.Picture.{pixels};

@@ -1,6 +1,5 @@
 // A strip's records: how many there are, and those of the spots replaced by others.
-ghost use Rattle.std.specs.Prelude.{◌≡◌, ◌*◌, ◌≤◌, ltb, length};
-ghost use Rattle.format.specs.Choice.{if◌then◌else◌};
+ghost use Rattle.std.specs.Prelude.{◌≡◌, ◌*◌, ◌≤◌, ltb, length, if◌then◌else◌};
 ghost use Rattle.pixel.specs.Cells.{put_pixel};
 ghost use Rattle.chain.specs.Valid.{records_in};
 ghost use Rattle.retouch.specs.Spots.{Sound};

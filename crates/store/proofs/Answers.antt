@@ -1,10 +1,10 @@
 -- The number and the bytes of `store` at each of its returns, from a chain's value back to its bytes.
+use Rattle.std.specs.Prelude.{if◌then◌else◌}
 use mathlib.Core.Bool.{Bool, true, false}
 use mathlib.Core.List.{List}
 use mathlib.Core.Path.{◌≡◌, refl, sym, ap, ◌∙◌}
 use Prim.Native.Nat.{ℕ}
 use native.Mathlib.Omega.{arith}
-use Rattle.format.specs.Choice.{if◌then◌else◌}
 use Rattle.format.specs.Picture.{pixels, written}
 use Rattle.format.specs.Chain.{step_at, count}
 use Rattle.format.specs.Refusals.{◌before◌, ◌unless◌}

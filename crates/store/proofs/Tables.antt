@@ -1,11 +1,11 @@
 -- Where the table of a chain stands.
+use Rattle.std.specs.Prelude.{if◌then◌else◌}
 use mathlib.Core.Bool.{Bool, true, false}
 use mathlib.Core.Path.{◌≡◌, ap, subst}
 use Prim.Native.Nat.{ℕ, ◌+◌, ◌<◌}
 use native.Mathlib.Decide.{ℕ_discrete}
 use native.Mathlib.Omega.{arith}
 use Rattle.format.specs.declared.Step.{Step}
-use Rattle.format.specs.Choice.{if◌then◌else◌}
 
 -- none of the first t records is a table
 pub record NoneBefore (steps : ℕ → Step) (t : ℕ) : Type 0 where

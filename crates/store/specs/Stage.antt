@@ -1,7 +1,6 @@
 -- A row on its way through the stages of a chain. y is its number, ds the data, c the chain as a value.
-use Rattle.std.specs.Prelude.{true, List, ◌≡◌, ℕ, ◌+◌, ◌*◌, ◌-◌, ◌<◌, ◌≤◌, length}
+use Rattle.std.specs.Prelude.{true, List, ◌≡◌, ℕ, ◌+◌, ◌*◌, ◌-◌, ◌<◌, ◌≤◌, length, if◌then◌else◌}
 use Rattle.format.specs.declared.Step.{Step}
-use Rattle.format.specs.Choice.{if◌then◌else◌}
 use Rattle.format.specs.Picture.{Picture, pixels, written}
 use Rattle.format.specs.ColorTable.{packed_width, packed, have_entries}
 use Rattle.format.specs.Chain.{narrowed}

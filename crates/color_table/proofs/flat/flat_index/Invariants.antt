@@ -1,8 +1,8 @@
 -- `flat_index` meets its contract: before each turn r counts the entries before j that come before the pixel's.
+use Rattle.std.specs.Prelude.{if◌then◌else◌}
 use mathlib.Core.Path.{◌≡◌}
 use Prim.Native.Nat.{◌≤◌, ◌-◌}
 use lib.Dec.{ltb}
-use Rattle.format.specs.Choice.{if◌then◌else◌}
 use Rattle.format.specs.Picture.{pixels}
 use Rattle.format.specs.ColorTable.{index_of}
 use Rattle.pixel.specs.Word.{unword}

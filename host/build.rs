@@ -43,7 +43,8 @@ fn make(root: &Path) -> Result<(), String> {
     match run {
         Ok(output) if output.status.success() => Ok(()),
         Ok(output) => Err(format!(
-            "`tools/staticlib` failed with {}: {}",
+            "`tools/staticlib` failed with {}: {}; without `rt`, set LETCHWATER_LIB_DIR to a directory \
+             that has {ARCHIVE}",
             output.status,
             last_line(&output)
         )),

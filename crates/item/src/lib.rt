@@ -46,6 +46,7 @@ pub fn refusal(made: Made) -> u32
 }
 
 // Pixel q of the picture, where the point is painted.
+#[tactic(auto, using(crate::proofs::Before::shown_here, crate::proofs::Before::shown_off))]
 fn painted(picture: &[u8], q: usize, point: Point) -> Pixel
     requires { 4 * q + 4 ≤ length picture.now }
     ensures { result ≡ shown picture.now point q }

@@ -13,10 +13,6 @@ pub returns-then-again : goal.returns-then-again
 unfolding checked
 returns-then-again c = rw (le-ltb _ _ c.if-s-gt3.false, c.if-again.true) refl
 
-pub fields_tabled-requires : goal.fields_tabled-requires
-unfolding checked
-fields_tabled-requires c = search rules
-
 pub returns-then-not-fields_tabled : goal.returns-then-not-fields_tabled
 unfolding checked
 returns-then-not-fields_tabled c =

@@ -10,22 +10,6 @@ pub returns-then-s-ne0 : goal.returns-then-s-ne0
 unfolding tabled by_kind
 returns-then-s-ne0 c = rw (ne_eqb _ _ c.if-s-ne0.true)
 
-pub blocks_tabled-requires : goal.blocks_tabled-requires
-unfolding tabled by_kind
-blocks_tabled-requires c = search rules
-
-pub blocks_tabled-requires-in-1 : goal.blocks_tabled-requires-in-1
-unfolding tabled by_kind
-blocks_tabled-requires-in-1 c = search rules
-
-pub green_tabled-requires : goal.green_tabled-requires
-unfolding tabled by_kind
-green_tabled-requires c = search rules
-
-pub table_tabled-requires : goal.table_tabled-requires
-unfolding tabled by_kind
-table_tabled-requires c = search rules
-
 pub returns-in-0 : goal.returns-in-0
 unfolding tabled by_kind
 returns-in-0 c = rw (eq-eqb _ _ c.if-s-ne0.false, c.in-0.is) c.blocks_tabled.ensures

@@ -8,21 +8,9 @@ use Rattle.chain.proofs.Records.{turn, record_refused, record_passed, steps_none
 use Rattle.chain.proofs.Sizes.{refused_as, whole_chain}
 use Rattle.chain.proofs.read_records.Goals as goal
 
-pub no_steps-steps-requires : goal.no_steps-steps-requires
-unfolding width_at records_refusal
-no_steps-steps-requires c = search rules
-
 pub loop-k-init : goal.loop-k-init
 unfolding width_at records_refusal
 loop-k-init c = (omega arith, refl, refl, refl, c.no_steps-steps.ensures, steps_none _ _ _)
-
-pub record_at-s-requires : goal.record_at-s-requires
-unfolding width_at records_refusal
-record_at-s-requires c = omega arith
-
-pub used_before-requires : goal.used_before-requires
-unfolding width_at records_refusal
-used_before-requires c = omega arith
 
 pub check-requires : goal.check-requires
 unfolding width_at records_refusal
@@ -30,14 +18,6 @@ check-requires c =
     let l = c.loop-k in
     let r = c.record_at-s.ensures in
     (width_fits _ l.k _ _ _ l.invariant.3 r.0 c.requires.0.narrow, c.requires.0.low, r.1, r.2)
-
-pub refusal-answer-requires : goal.refusal-answer-requires
-unfolding width_at records_refusal
-refusal-answer-requires c = search rules
-
-pub refused-requires : goal.refused-requires
-unfolding width_at records_refusal
-refused-requires c = search rules
 
 pub returns-then-answer-ne0 : goal.returns-then-answer-ne0
 unfolding width_at records_refusal

@@ -6,28 +6,10 @@ use Rattle.format.specs.Chain.{record_at}
 use Rattle.chain.proofs.record_at.Goals as goal
 
 pub overflow_cast-result : goal.overflow_cast-result
-unfolding record_at
 overflow_cast-result c = omega (arith, c.shared_slice_known-2-1.given (16 * c.args.k))
 
 pub overflow_cast-result-2 : goal.overflow_cast-result-2
-unfolding record_at
 overflow_cast-result-2 c = omega (arith, c.shared_slice_known-3-1.given (16 * c.args.k + 1))
-
-pub le16-requires : goal.le16-requires
-unfolding record_at
-le16-requires c = search rules
-
-pub le32-requires : goal.le32-requires
-unfolding record_at
-le32-requires c = search rules
-
-pub le32-requires-2 : goal.le32-requires-2
-unfolding record_at
-le32-requires-2 c = search rules
-
-pub le32-requires-3 : goal.le32-requires-3
-unfolding record_at
-le32-requires-3 c = search rules
 
 pub returns : goal.returns
 unfolding record_at

@@ -16,7 +16,6 @@ unfolding tabled_length by_kind
 block_bytes-requires-in-1 c = (color_bits _ c.requires.0 c.in-1.is, c.requires.1, c.requires.2)
 
 pub overflow_mul-result : goal.overflow_mul-result
-unfolding tabled_length by_kind
 overflow_mul-result c =
     omega (arith, table_size c.args.s c.requires.0 (λ e. omega arith) (λ e. omega arith) (λ e. omega arith))
 

@@ -5,10 +5,6 @@ use borrow.Author.Rules.{rules}
 use Rattle.format.specs.Chain.{narrowed}
 use Rattle.chain.proofs.width_after.Goals as goal
 
-pub packed_width-packed-requires : goal.packed_width-packed-requires
-unfolding narrowed
-packed_width-packed-requires c = search rules
-
 pub returns-then-s-eq3 : goal.returns-then-s-eq3
 unfolding narrowed
 returns-then-s-eq3 c = rw (eq-eqb _ _ c.if-s-eq3.true) c.packed_width-packed.ensures

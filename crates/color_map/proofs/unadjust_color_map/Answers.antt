@@ -4,10 +4,6 @@ use Rattle.format.specs.ColorMap.{color_map_answer, unadjust_color_map}
 use Rattle.format.proofs.ColorMap.{taken_long}
 use Rattle.color_map.proofs.unadjust_color_map.Goals as goal
 
-pub refused_length-requires : goal.refused_length-requires
-unfolding color_map_answer unadjust_color_map
-refused_length-requires c = search rules
-
 pub returns-then-refused_length : goal.returns-then-refused_length
 unfolding color_map_answer unadjust_color_map
 returns-then-refused_length c = rw (sym c.refused_length.ensures ∙ c.if-refused_length.true) (record { value = refl; color_map_after = refl })

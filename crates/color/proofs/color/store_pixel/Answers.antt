@@ -4,30 +4,6 @@ use Rattle.std.proofs.Common.{arith, rules}
 use Rattle.format.proofs.Byte.{sub_wrapped}
 use Rattle.color.proofs.color.store_pixel.Goals as goal
 
-pub color_transform_delta-requires : goal.color_transform_delta-requires
-unfolding transform_color
-color_transform_delta-requires c = search rules
-
-pub wrapping_sub_u8-red-requires : goal.wrapping_sub_u8-red-requires
-unfolding transform_color
-wrapping_sub_u8-red-requires c = search rules
-
-pub color_transform_delta-requires-2 : goal.color_transform_delta-requires-2
-unfolding transform_color
-color_transform_delta-requires-2 c = search rules
-
-pub wrapping_sub_u8-blue-requires : goal.wrapping_sub_u8-blue-requires
-unfolding transform_color
-wrapping_sub_u8-blue-requires c = search rules
-
-pub color_transform_delta-requires-3 : goal.color_transform_delta-requires-3
-unfolding transform_color
-color_transform_delta-requires-3 c = search rules
-
-pub wrapping_sub_u8-requires : goal.wrapping_sub_u8-requires
-unfolding transform_color
-wrapping_sub_u8-requires c = search rules
-
 pub returns : goal.returns
 unfolding transform_color
 returns c =

@@ -14,33 +14,20 @@ bx : (c : After-subsample_size-bx)
     → 4 * (c.args.y / 2 ^ c.args.bits * c.subsample_size-bx.result) + 4 * c.subsample_size-bx.result ≤ length c.args.blocks.now
 bx c = let p = c.requires in data_there _ _ _ _ _ p.sized.1 p.sized.2 _ c.subsample_size-bx.ensures
 
-pub subsample_size-bx-requires : goal.subsample_size-bx-requires
-unfolding color_stored
-subsample_size-bx-requires c = search rules
-
 pub overflow_mul-c : goal.overflow_mul-c
-unfolding color_stored
 overflow_mul-c c = omega (arith, bx (goal.at.overflow_mul-c c).After-subsample_size-bx)
 
 pub overflow_mul-c-2 : goal.overflow_mul-c-2
-unfolding color_stored
 overflow_mul-c-2 c = omega (arith, bx (goal.at.overflow_mul-c-2 c).After-subsample_size-bx)
 
 pub overflow_mul-d : goal.overflow_mul-d
-unfolding color_stored
 overflow_mul-d c = omega (arith, bx (goal.at.overflow_mul-d c).After-subsample_size-bx)
 
 pub overflow_add-d : goal.overflow_add-d
-unfolding color_stored
 overflow_add-d c = omega (arith, bx (goal.at.overflow_add-d c).After-subsample_size-bx)
 
 pub slice_bounds-store_segments-end : goal.slice_bounds-store_segments-end
-unfolding color_stored
 slice_bounds-store_segments-end c = omega (arith, bx (goal.at.slice_bounds-store_segments-end c).After-subsample_size-bx)
-
-pub store_segments-requires : goal.store_segments-requires
-unfolding color_stored
-store_segments-requires c = search rules
 
 pub returns : goal.returns
 unfolding color_stored

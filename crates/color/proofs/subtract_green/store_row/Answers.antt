@@ -11,18 +11,6 @@ pub loop-i-init : goal.loop-i-init
 unfolding green_stored
 loop-i-init c = (omega arith, refl, run_none _ _ _ _)
 
-pub read_pixel-requires : goal.read_pixel-requires
-unfolding green_stored
-read_pixel-requires c = omega arith
-
-pub store_pixel-v-requires : goal.store_pixel-v-requires
-unfolding green_stored
-store_pixel-v-requires c = omega arith
-
-pub write_pixel-requires : goal.write_pixel-requires
-unfolding green_stored
-write_pixel-requires c = omega arith
-
 pub loop-i-preserved : goal.loop-i-preserved
 unfolding green_stored
 loop-i-preserved c =

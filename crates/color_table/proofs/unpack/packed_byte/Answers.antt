@@ -6,7 +6,6 @@ use Rattle.format.specs.Picture.{pixels}
 use Rattle.color_table.proofs.unpack.packed_byte.Goals as goal
 
 pub overflow_cast-result : goal.overflow_cast-result
-unfolding pixels
 overflow_cast-result c = omega (arith, c.shared_slice_known-1.given (4 * c.args.k + 1))
 
 pub returns : goal.returns

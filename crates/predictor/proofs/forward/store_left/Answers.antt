@@ -9,14 +9,6 @@ pub loop-x-init : goal.loop-x-init
 unfolding given
 loop-x-init c = (omega arith, omega arith, refl, run_none _ _ _ _)
 
-pub left_residual-v-requires : goal.left_residual-v-requires
-unfolding given
-left_residual-v-requires c = omega arith
-
-pub put_pixel-requires : goal.put_pixel-requires
-unfolding given
-put_pixel-requires c = omega arith
-
 pub loop-x-preserved : goal.loop-x-preserved
 unfolding given
 loop-x-preserved c =

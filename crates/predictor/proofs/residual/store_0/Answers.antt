@@ -9,14 +9,6 @@ pub loop-x-init : goal.loop-x-init
 unfolding given
 loop-x-init c = (omega arith, omega arith, refl, run_none _ _ _ _)
 
-pub residual_0-v-requires : goal.residual_0-v-requires
-unfolding given
-residual_0-v-requires c = omega arith
-
-pub write_pixel-requires : goal.write_pixel-requires
-unfolding given
-write_pixel-requires c = omega arith
-
 pub loop-x-preserved : goal.loop-x-preserved
 unfolding given
 loop-x-preserved c =

@@ -9,14 +9,6 @@ pub loop-x-init : goal.loop-x-init
 unfolding given
 loop-x-init c = (omega arith, omega arith, refl, run_none _ _ _ _)
 
-pub residual_11-v-requires : goal.residual_11-v-requires
-unfolding given
-residual_11-v-requires c = omega arith
-
-pub put_pixel-requires : goal.put_pixel-requires
-unfolding given
-put_pixel-requires c = omega arith
-
 pub loop-x-preserved : goal.loop-x-preserved
 unfolding given
 loop-x-preserved c =

@@ -8,10 +8,6 @@ pub loop-i-init : goal.loop-i-init
 unfolding given
 loop-i-init c = (omega arith, omega arith, refl, run_none _ _ _ _)
 
-pub byte_residual-requires : goal.byte_residual-requires
-unfolding given
-byte_residual-requires c = omega arith
-
 pub loop-i-preserved : goal.loop-i-preserved
 unfolding given
 loop-i-preserved c =

@@ -5,15 +5,12 @@ use Rattle.pixel.proofs.Blocks.{block_there}
 use Rattle.predictor.proofs.row.mode_at.Goals as goal
 
 pub overflow_mul-result : goal.overflow_mul-result
-unfolding pixels
 overflow_mul-result c = omega (arith, block_there c.args.width c.args.bits c.args.x c.requires.x_lt_width)
 
 pub overflow_add-result : goal.overflow_add-result
-unfolding pixels
 overflow_add-result c = omega (arith, block_there c.args.width c.args.bits c.args.x c.requires.x_lt_width)
 
 pub bounds-blocks-x : goal.bounds-blocks-x
-unfolding pixels
 bounds-blocks-x c = omega (arith, block_there c.args.width c.args.bits c.args.x c.requires.x_lt_width)
 
 pub returns : goal.returns

@@ -12,10 +12,6 @@ pub records_in-requires : goal.records_in-requires
 unfolding made
 records_in-requires c = records_few c.args.chain _ c.requires.valid
 
-pub no_record-requires : goal.no_record-requires
-unfolding made
-no_record-requires c = search rules
-
 pub returns-then-records_in-r : goal.returns-then-records_in-r
 unfolding made
 returns-then-records_in-r c = rw (← c.records_in.ensures, le-ltb _ _ c.if-records_in-r.true, c.no_record.ensures) refl

@@ -1,7 +1,7 @@
 -- What reading a chain gives. w and h are the picture's width and height, cs the chain, ds the data.
 use Rattle.std.specs.Prelude.{List, ◌≡◌, ℕ, ◌<◌, get_or}
 use Rattle.format.specs.declared.Step.{Step}
-use Rattle.format.specs.Chain.{step_at, width_at, count as recordCount}
+use Rattle.format.specs.Chain.{step_at, width_at, count as record_count}
 use Rattle.format.specs.Refusals.{input_refusal}
 use Rattle.format.specs.Calls.{pair_refusal}
 use Rattle.chain.specs.declared.Chain.{Chain}
@@ -13,11 +13,11 @@ pub record StepsTo (k w : ℕ) (cs : List ℕ) (steps : List Step) : Type 0 wher
 
 -- c is the chain as plain values
 pub record ChainOf (w h : ℕ) (cs : List ℕ) (c : Chain) : Type 0 where
-  pub count : c.count ≡ recordCount cs
-  pub steps : StepsTo (recordCount cs) w cs c.steps
+  pub count : c.count ≡ record_count cs
+  pub steps : StepsTo (record_count cs) w cs c.steps
   pub width : c.width.0 ≡ w
   pub height : c.height ≡ h
-  pub strip : c.strip.0 ≡ width_at cs w (recordCount cs)
+  pub strip : c.strip.0 ≡ width_at cs w (record_count cs)
 
 -- refusals 1 to 7 and, where there is none, the chain
 pub record Read (w h : ℕ) (cs ds : List ℕ) (c : Chain) : Type 0 where

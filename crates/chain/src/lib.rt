@@ -3,7 +3,7 @@
 
 ghost use Rattle.std.specs.Prelude.{◌≡◌, true, ◌+◌, ◌*◌, ◌%◌, ◌<◌, ◌≤◌, length};
 ghost use Rattle.format.specs.Sizes.{Sized};
-ghost use Rattle.format.specs.Chain.{le16 as le16Of, le32 as le32Of, record_at, narrowed};
+ghost use Rattle.format.specs.Chain.{le16, le32, record_at, narrowed};
 ghost use Rattle.format.specs.Refusals.{used_before, blocks_tabled, green_tabled, table_tabled, tabled, block_bytes};
 ghost use Rattle.format.specs.Refusals.{tabled_length, checked, number, in_range};
 ghost use Rattle.format.specs.Stages.{data_of};
@@ -38,14 +38,14 @@ pub fn part_of(data: &[u8], s: Step) -> &[u8]
 // Little-endian numbers of 16 and of 32 bits.
 fn le16(xs: &[u8], i: usize) -> usize
     requires { i + 2 ≤ length xs.now }
-    ensures { (result ≡ le16Of xs.now i) × (result < 65536) }
+    ensures { (result ≡ le16 xs.now i) × (result < 65536) }
 {
     xs[i] as usize + 256 * (xs[i + 1] as usize)
 }
 
 pub fn le32(xs: &[u8], i: usize) -> usize
     requires { i + 4 ≤ length xs.now }
-    ensures { (result ≡ le32Of xs.now i) × (result < 4294967296) }
+    ensures { (result ≡ le32 xs.now i) × (result < 4294967296) }
 {
     le16(xs, i) + 65536 * le16(xs, i + 2)
 }

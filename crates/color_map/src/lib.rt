@@ -4,7 +4,7 @@
 ghost use Rattle.std.specs.Prelude.{◌≡◌, ◌-◌, ◌<◌, ◌≤◌, length};
 ghost use Rattle.format.specs.Byte.{add, sub};
 ghost use Rattle.format.specs.Picture.{byte_at, written_bytes};
-ghost use Rattle.format.specs.ColorMap.{adjusted, unadjusted, refused as refusedLength};
+ghost use Rattle.format.specs.ColorMap.{adjusted, unadjusted, refused as length_refused};
 ghost use Rattle.format.specs.ColorMap.{color_map_answer, adjust_color_map, unadjust_color_map};
 
 use std::num::{wrapping_add_u8, wrapping_sub_u8};
@@ -51,7 +51,7 @@ fn unadjust(color_map: &mut [u8])
 
 // Refusal 10: the length of a color map is 0, over 1024 or not a multiple of 4.
 pub fn refused_length(length: usize) -> bool
-    ensures { result ≡ refusedLength length }
+    ensures { result ≡ length_refused length }
 {
     if length == 0 {
         return true;

@@ -26,8 +26,8 @@ pub fn record_of(b: u32) -> u32
     join(0, b, 0, 255)
 }
 
-// The index at position a + k of a row: its column's or, past the row's end, `before`, which is the last column's. A row
-// has at most 16384 columns: the bound is any that keeps the sum in range.
+// The index at position a + k of a row: its column's or, past the row's end, `before`, which is the last column's. A
+// row has at most 16384 columns: the bound is any that keeps the sum in range.
 fn index_at(
     row: &[u8],
     a: usize,

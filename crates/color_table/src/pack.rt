@@ -1,7 +1,7 @@
 // Storing: a row of pixels that have entries to indices, packed into records of a strip.
 ghost use Rattle.std.specs.Prelude.{◌≡◌, true, ◌*◌, ◌≤◌, length};
 ghost use Rattle.format.specs.Picture.{pixels, written};
-ghost use Rattle.format.specs.ColorTable.{packed_width, have_entries, packed as packedOf};
+ghost use Rattle.format.specs.ColorTable.{packed_width, have_entries, packed as packed_of};
 ghost use Rattle.color_table.specs.Hints.{Hints};
 ghost use Rattle.color_table.specs.Pack.{Packs, RecordsBy};
 
@@ -30,7 +30,7 @@ fn pack_by(row: &[u8], out: &mut [u8], entries: &[u8], hints: &[u8], p: Packing)
     requires packs { Packs p entries.now hints.now row.now }
     requires width_in_bounds { 4 * packed_width p.size p.width ≤ length out.old }
     ensures { out.new ≡ written (packed_width p.size p.width)
-        (packedOf p.width p.size (pixels entries.now) (pixels row.now))
+        (packed_of p.width p.size (pixels entries.now) (pixels row.now))
         out.old }
 {
     let from = pack_front(row, out, entries, hints, p);
@@ -53,7 +53,7 @@ pub fn pack_row(
     requires hints { Hints size (pixels entries.now) hints.now }
     requires row_value { have_entries size (pixels entries.now) expanded.0 (pixels row.now) ≡ true }
     ensures { out.new ≡ written (packed_width size expanded.0)
-        (packedOf expanded.0 size (pixels entries.now) (pixels row.now)) out.old }
+        (packed_of expanded.0 size (pixels entries.now) (pixels row.now)) out.old }
 {
     let p = Packing {
         width: expanded.0,

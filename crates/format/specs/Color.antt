@@ -31,12 +31,12 @@ abbrev pub rebuilt_red : Pixel → ℕ → ℕ → ℕ
 rebuilt_red e g r = add r (delta (green_to_red e) g)
 
 abbrev pub rebuilt_blue : Pixel → ℕ → ℕ → ℕ → ℕ
-rebuilt_blue e g newRed b = add (add b (delta (green_to_blue e) g)) (delta (red_to_blue e) newRed)
+rebuilt_blue e g new_red b = add (add b (delta (green_to_blue e) g)) (delta (red_to_blue e) new_red)
 
 unfoldable pub inverse_color : Pixel → Pixel → Pixel
 inverse_color e v =
-    let newRed = rebuilt_red e v.green v.red in
-    pixel newRed v.green (rebuilt_blue e v.green newRed v.blue) v.alpha
+    let new_red = rebuilt_red e v.green v.red in
+    pixel new_red v.green (rebuilt_blue e v.green new_red v.blue) v.alpha
 
 -- a picture of w columns, each pixel by its block's data pixel
 unfoldable pub color_stored : ℕ → ℕ → Picture → Picture → Picture

@@ -85,8 +85,8 @@ module _ (w h : ℕ) (cs ds : List ℕ) where
       → SameFront (records w h cs) image (store_strip w h cs ds picture strip)
       → (rebuild_answer w h cs ds image ≡ 0) × (rebuild_image w h cs ds image ≡ written (h * w) (pixels picture) image)
 
-  -- document 02 (ii): rebuilding a strip that was stored earlier, with document 01's zero bits, gives its picture, every
-  -- byte beyond kept
+  -- document 02 (ii): rebuilding a strip that was stored earlier, with document 01's zero bits, gives its picture,
+  -- every byte beyond kept
   abbrev pub RebuildsEarlier : Type 0
   RebuildsEarlier = (picture strip image : List ℕ) → AreBytes picture
       → earlier_answer w h cs ds picture strip ≡ 0

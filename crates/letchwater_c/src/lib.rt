@@ -1,5 +1,5 @@
-// The calls of the library `letchwater` as C functions of a static library, for the Rust host: the same names, parameters
-// and contracts. Each gives the number and every byte of every lent buffer, on every input.
+// The calls of the library `letchwater` as C functions of a static library, for the Rust host: the same names,
+// parameters and contracts. Each gives the number and every byte of every lent buffer, on every input.
 #![tactic(auto)]
 
 ghost use Rattle.std.specs.Prelude.{◌≡◌};

@@ -4,7 +4,7 @@
 ghost use Rattle.std.specs.Prelude.{◌≡◌, ◌+◌, ◌-◌, ◌*◌, ◌<◌, ◌≤◌, length};
 ghost use Rattle.format.specs.Picture.{byte_at, pixels};
 ghost use Rattle.predictor.specs.Row.{around, residual, lost_by, InColumns};
-ghost use Rattle.predictor.specs.Bytewise.{predict_byte as predictByteOf, byte_residual as byteResidualOf};
+ghost use Rattle.predictor.specs.Bytewise.{predict_byte, byte_residual};
 ghost use Rattle.predictor.specs.Bytewise.{bytes_lost, ByteColumns};
 
 use format::Pixel;
@@ -14,7 +14,7 @@ use pixel::word::{read_pixel, write_pixel};
 use std::num::wrapping_sub_u8;
 
 fn predict_byte(mode: u8, l: u8, t: u8, tr: u8, tl: u8) -> u8
-    ensures { result ≡ predictByteOf mode l t tr tl }
+    ensures { result ≡ predict_byte mode l t tr tl }
 {
     match mode {
         0 => 0,
@@ -37,7 +37,7 @@ fn predict_byte(mode: u8, l: u8, t: u8, tr: u8, tl: u8) -> u8
 
 fn byte_residual(rows: &[u8], mode: u8, stride: usize, i: usize) -> u8
     requires { (4 ≤ i) × (i < stride) × (length rows.now ≡ stride + stride) }
-    ensures { result ≡ byteResidualOf mode stride (byte_at rows.now) i }
+    ensures { result ≡ byte_residual mode stride (byte_at rows.now) i }
 {
     let l = rows[stride + i - 4];
     let t = rows[i];

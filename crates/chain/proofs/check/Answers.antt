@@ -19,7 +19,6 @@ returns-then-not-fields_tabled c =
     rw (le-ltb _ _ c.if-s-gt3.false, c.if-again.false, sym c.fields_tabled.ensures ∙ c.if-not-fields_tabled.true) refl
 
 pub tabled_length-requires : goal.tabled_length-requires
-unfolding checked
 tabled_length-requires c = (sym c.fields_tabled.ensures ∙ c.if-not-fields_tabled.false, c.requires.0, c.requires.1)
 
 pub returns-then-s-tabled_length : goal.returns-then-s-tabled_length

@@ -13,7 +13,6 @@ unfolding width_at records_refusal
 loop-k-init c = (omega arith, refl, refl, refl, c.no_steps-steps.ensures, steps_none _ _ _)
 
 pub check-requires : goal.check-requires
-unfolding width_at records_refusal
 check-requires c =
     let l = c.loop-k in
     let r = c.record_at-s.ensures in
@@ -29,11 +28,9 @@ returns-then-answer-ne0 c =
     refused_as _ _ _ _ _ _ c.refused.ensures (whole_chain _ _ _ _ p.0 p.1 p.2 ∙ sym e) c.if-answer-ne0.true
 
 pub width_after-current-requires : goal.width_after-current-requires
-unfolding width_at records_refusal
 width_after-current-requires c = width_fits _ c.loop-k.k _ _ _ c.loop-k.invariant.3 c.record_at-s.ensures.0 c.requires.0.narrow
 
 pub loop-k-preserved : goal.loop-k-preserved
-unfolding width_at records_refusal
 loop-k-preserved c =
     let l = c.loop-k in
     let f = c.record_at-s.ensures.0 in

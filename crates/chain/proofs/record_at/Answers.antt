@@ -6,10 +6,10 @@ use Rattle.format.specs.Chain.{record_at}
 use Rattle.chain.proofs.record_at.Goals as goal
 
 pub overflow_cast-result : goal.overflow_cast-result
-overflow_cast-result c = omega (arith, c.shared_slice_known-2-1.given (16 * c.args.k))
+overflow_cast-result c = omega (arith, (c.type_inv.chain (16 * c.args.k)).fits)
 
 pub overflow_cast-result-2 : goal.overflow_cast-result-2
-overflow_cast-result-2 c = omega (arith, c.shared_slice_known-3-1.given (16 * c.args.k + 1))
+overflow_cast-result-2 c = omega (arith, (c.type_inv.chain (16 * c.args.k + 1)).fits)
 
 pub returns : goal.returns
 unfolding record_at

@@ -8,11 +8,9 @@ use Rattle.chain.proofs.Tabled.{predictor_bits, color_bits, table_size}
 use Rattle.chain.proofs.tabled_length.Goals as goal
 
 pub block_bytes-requires : goal.block_bytes-requires
-unfolding tabled_length by_kind
 block_bytes-requires c = (predictor_bits _ c.requires.0 c.in-0.is, c.requires.1, c.requires.2)
 
 pub block_bytes-requires-in-1 : goal.block_bytes-requires-in-1
-unfolding tabled_length by_kind
 block_bytes-requires-in-1 c = (color_bits _ c.requires.0 c.in-1.is, c.requires.1, c.requires.2)
 
 pub overflow_mul-result : goal.overflow_mul-result

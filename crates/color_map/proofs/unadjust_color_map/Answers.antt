@@ -9,7 +9,6 @@ unfolding color_map_answer unadjust_color_map
 returns-then-refused_length c = rw (sym c.refused_length.ensures ∙ c.if-refused_length.true) (record { value = refl; color_map_after = refl })
 
 pub unadjust-requires : goal.unadjust-requires
-unfolding color_map_answer unadjust_color_map
 unadjust-requires c = (taken_long _ (sym c.refused_length.ensures ∙ c.if-refused_length.false)).0
 
 pub returns : goal.returns

@@ -1,6 +1,6 @@
--- The measures of the calls that item, neighbor, packed and residual make of each other. An item after k records asks for
--- items after k - 1, by way of a record's n positions or of a residual's neighbors. A record has at most 8 positions, so
--- that 16 * k leaves room for the calls between.
+-- The measures of the calls that item, neighbor, packed and residual make of each other. An item after k records asks
+-- for items after k - 1, by way of a record's n positions or of a residual's neighbors. A record has at most 8
+-- positions, so that 16 * k leaves room for the calls between.
 use Rattle.std.proofs.Common.{◌+◌, ◌*◌}
 use Rattle.item.proofs.+item_neighbor_packed_residual.Given as goal
 

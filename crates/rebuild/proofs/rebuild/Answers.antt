@@ -1,4 +1,5 @@
--- `rebuild` meets its contract: before each turn, undoing the records before k makes of the buffer what the call is to leave.
+-- `rebuild` meets its contract: before each turn, undoing the records before k makes of the buffer what the call is to
+-- leave.
 use mathlib.Core.Path.{refl, sym, ◌∙◌}
 use native.Mathlib.Omega.{arith}
 use borrow.Author.Rules.{rules}

@@ -1,4 +1,5 @@
--- `rebuild_up` meets its contract: before each turn the rows from y on are rebuilt, and the rows before them are as they were.
+-- `rebuild_up` meets its contract: before each turn the rows from y on are rebuilt, and the rows before them are as
+-- they were.
 use mathlib.Core.Path.{◌≡◌}
 use Prim.Native.Nat.{◌≤◌}
 use lib.ListN.{length}

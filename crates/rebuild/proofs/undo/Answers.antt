@@ -5,7 +5,6 @@ use Rattle.rebuild.proofs.Turns.{ready}
 use Rattle.rebuild.proofs.undo.Goals as goal
 
 pub undo_step-requires : goal.undo_step-requires
-unfolding record_undone
 undo_step-requires c = let p = c.requires in ready _ _ p.0 _ _ p.2 p.1
 
 pub returns : goal.returns

@@ -7,27 +7,21 @@ use Rattle.color.specs.Row.{in_picture}
 use Rattle.color.proofs.Blocks.{row_blocks}
 use Rattle.color.proofs.Pointwise.{held}
 use Rattle.color.proofs.color.store_row.Goals as goal
-use Rattle.color.proofs.color.store_row.Goals.{After-subsample_size-bx}
-
--- the data of the row's blocks
-bx : (c : After-subsample_size-bx)
-    → 4 * (c.args.y / 2 ^ c.args.bits * c.subsample_size-bx.result) + 4 * c.subsample_size-bx.result ≤ length c.args.blocks.now
-bx c = let p = c.requires in data_there _ _ _ _ _ p.sized.1 p.sized.2 _ c.subsample_size-bx.ensures
 
 pub overflow_mul-c : goal.overflow_mul-c
-overflow_mul-c c = omega (arith, bx (goal.at.overflow_mul-c c).After-subsample_size-bx)
+overflow_mul-c c = omega (arith, data_there _ _ _ _ _ c.requires.sized.1 c.requires.sized.2 _ c.subsample_size-bx.ensures)
 
 pub overflow_mul-c-2 : goal.overflow_mul-c-2
-overflow_mul-c-2 c = omega (arith, bx (goal.at.overflow_mul-c-2 c).After-subsample_size-bx)
+overflow_mul-c-2 c = omega (arith, data_there _ _ _ _ _ c.requires.sized.1 c.requires.sized.2 _ c.subsample_size-bx.ensures)
 
 pub overflow_mul-d : goal.overflow_mul-d
-overflow_mul-d c = omega (arith, bx (goal.at.overflow_mul-d c).After-subsample_size-bx)
+overflow_mul-d c = omega (arith, data_there _ _ _ _ _ c.requires.sized.1 c.requires.sized.2 _ c.subsample_size-bx.ensures)
 
 pub overflow_add-d : goal.overflow_add-d
-overflow_add-d c = omega (arith, bx (goal.at.overflow_add-d c).After-subsample_size-bx)
+overflow_add-d c = omega (arith, data_there _ _ _ _ _ c.requires.sized.1 c.requires.sized.2 _ c.subsample_size-bx.ensures)
 
 pub slice_bounds-store_segments-end : goal.slice_bounds-store_segments-end
-slice_bounds-store_segments-end c = omega (arith, bx (goal.at.slice_bounds-store_segments-end c).After-subsample_size-bx)
+slice_bounds-store_segments-end c = omega (arith, data_there _ _ _ _ _ c.requires.sized.1 c.requires.sized.2 _ c.subsample_size-bx.ensures)
 
 pub returns : goal.returns
 unfolding color_stored

@@ -3,23 +3,18 @@ use Rattle.std.proofs.Common.{◌+◌, ◌*◌, ◌≤◌, refl, arith}
 use Rattle.pixel.proofs.Blocks.{row_there}
 use Rattle.color.proofs.Pointwise.{lent}
 use Rattle.color.proofs.subtract_green.rebuild_row_at.Goals as goal
-use Rattle.color.proofs.subtract_green.rebuild_row_at.Goals.{Start}
-
--- the row is inside the picture
-there : (s : Start) → s.args.y * s.args.width + s.args.width ≤ s.args.height * s.args.width
-there s = row_there s.args.width s.args.height s.args.y (omega arith)
 
 pub overflow_mul-a : goal.overflow_mul-a
-overflow_mul-a c = omega (arith, there (goal.at.overflow_mul-a c).Start)
+overflow_mul-a c = omega (arith, row_there c.args.width _ _ c.requires.sized.1)
 
 pub overflow_mul-a-2 : goal.overflow_mul-a-2
-overflow_mul-a-2 c = omega (arith, there (goal.at.overflow_mul-a-2 c).Start)
+overflow_mul-a-2 c = omega (arith, row_there c.args.width _ _ c.requires.sized.1)
 
 pub overflow_add-b : goal.overflow_add-b
-overflow_add-b c = omega (arith, there (goal.at.overflow_add-b c).Start)
+overflow_add-b c = omega (arith, row_there c.args.width _ _ c.requires.sized.1)
 
 pub slice_bounds-rebuild_row-end : goal.slice_bounds-rebuild_row-end
-slice_bounds-rebuild_row-end c = omega (arith, there (goal.at.slice_bounds-rebuild_row-end c).Start)
+slice_bounds-rebuild_row-end c = omega (arith, row_there c.args.width _ _ c.requires.sized.1)
 
 pub returns : goal.returns
-returns c = lent _ _ c.args.y c.args.width _ _ c.rebuild_row.ensures (λ i l v. refl) (omega (arith, there (goal.at.returns c).Start))
+returns c = lent _ _ c.args.y c.args.width _ _ c.rebuild_row.ensures (λ i l v. refl) (omega (arith, row_there c.args.width _ _ c.requires.sized.1))

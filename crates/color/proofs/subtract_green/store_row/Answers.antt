@@ -8,11 +8,9 @@ use Rattle.color.proofs.Pointwise.{turn, held}
 use Rattle.color.proofs.subtract_green.store_row.Goals as goal
 
 pub loop-i-init : goal.loop-i-init
-unfolding green_stored
 loop-i-init c = (omega arith, refl, run_none _ _ _ _)
 
 pub loop-i-preserved : goal.loop-i-preserved
-unfolding green_stored
 loop-i-preserved c =
     let l = c.loop-i.invariant in
     let p = c.write_pixel in (

@@ -1,4 +1,5 @@
--- `pack_front` meets its contract: both ways do.
+-- `pack_front` meets its contract: where eight indices share a pixel the table has one or two entries, as `pack_bits`
+-- asks.
 use Rattle.color_table.proofs.Digits.{row_at, pair_of}
 use Rattle.color_table.proofs.pack.pack_front.Goals as goal
 

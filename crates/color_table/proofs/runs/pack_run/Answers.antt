@@ -1,4 +1,5 @@
--- `pack_run` meets its contract: the groups that are the last pixel again have its record, and the one after them is packed.
+-- `pack_run` meets its contract: the groups that are the last pixel again have its record, and the one after them is
+-- packed.
 use mathlib.Core.List.{List}
 use mathlib.Core.Path.{◌∙◌}
 use Prim.Native.Nat.{ℕ, ◌+◌, ◌*◌, ◌/◌, ◌<◌, ◌≤◌}

@@ -1,4 +1,4 @@
--- `unpack_four` meets its contract: either way does.
+-- `unpack_four` meets its contract: with one index a pixel the entries are looked up.
 use Rattle.color_table.proofs.unpack.unpack_four.Goals as goal
 
 pub returns-then-n-eq1 : goal.returns-then-n-eq1

@@ -6,7 +6,6 @@ use Rattle.predictor.proofs.Turn.{run_turn}
 use Rattle.predictor.proofs.forward.store_left.Goals as goal
 
 pub loop-x-init : goal.loop-x-init
-unfolding given
 loop-x-init c = (omega arith, omega arith, refl, run_none _ _ _ _)
 
 pub loop-x-preserved : goal.loop-x-preserved

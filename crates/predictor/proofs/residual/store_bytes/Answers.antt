@@ -5,7 +5,6 @@ use Rattle.pixel.proofs.Cells.{run_none, run_more, run_done}
 use Rattle.predictor.proofs.residual.store_bytes.Goals as goal
 
 pub loop-i-init : goal.loop-i-init
-unfolding given
 loop-i-init c = (omega arith, omega arith, refl, run_none _ _ _ _)
 
 pub loop-i-preserved : goal.loop-i-preserved

@@ -9,7 +9,6 @@ use Rattle.retouch.proofs.Making.{record_inside}
 use Rattle.retouch.proofs.remake.remake_inside.Goals as goal
 
 pub records_in-requires : goal.records_in-requires
-unfolding made
 records_in-requires c = records_few c.args.chain _ c.requires.valid
 
 pub returns-then-records_in-r : goal.returns-then-records_in-r
@@ -17,7 +16,6 @@ unfolding made
 returns-then-records_in-r c = rw (← c.records_in.ensures, le-ltb _ _ c.if-records_in-r.true, c.no_record.ensures) refl
 
 pub item-requires : goal.item-requires
-unfolding made
 item-requires c =
     (c.requires, omega arith, record_inside c.args.chain _ c.requires.valid _ _ c.records_in.ensures c.if-records_in-r.false)
 

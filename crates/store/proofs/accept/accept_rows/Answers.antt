@@ -1,4 +1,5 @@
--- `accept_rows` meets its contract: before each turn each pixel of the rows before y has an entry, and the row above is at hand.
+-- `accept_rows` meets its contract: before each turn each pixel of the rows before y has an entry, and the row above is
+-- at hand.
 use mathlib.Core.Path.{sym, ◌∙◌}
 use native.Mathlib.Omega.{arith}
 use Rattle.format.specs.Picture.{pixels}

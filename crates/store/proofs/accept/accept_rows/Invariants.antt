@@ -1,4 +1,5 @@
--- `accept_rows` meets its contract: before each turn each pixel of the rows before y has an entry, and the row above is at hand.
+-- `accept_rows` meets its contract: before each turn each pixel of the rows before y has an entry, and the row above is
+-- at hand.
 use mathlib.Core.Bool.{true}
 use mathlib.Core.Path.{◌≡◌}
 use Prim.Native.Nat.{◌*◌, ◌-◌, ◌≤◌}

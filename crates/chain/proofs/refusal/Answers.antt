@@ -1,1 +1,0 @@
--- `refusal` meets its contract, case by case.

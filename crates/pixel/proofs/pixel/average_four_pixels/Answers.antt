@@ -1,1 +1,0 @@
--- `average_four_pixels` meets its contract: an average of averages.

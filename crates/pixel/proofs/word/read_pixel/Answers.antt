@@ -1,1 +1,0 @@
--- `read_pixel` meets its contract: a word split is the pixel that it was joined from.

@@ -45,22 +45,40 @@ pub fn both(
     store(rt, name, width, height, chain, data, image, strip)
 }
 
+// A picture's size, and the pixel of it that is painted.
+#[derive(Clone, Copy)]
+pub struct Paint {
+    pub width: u32,
+    pub height: u32,
+    pub x: u32,
+    pub y: u32,
+    pub color: [u8; 4],
+}
+
 // The picture after it, then the strip.
 pub fn retouch(
     rt: &impl Print,
     name: &str,
-    width: u32,
-    height: u32,
+    paint: Paint,
     chain: &[u8],
     data: &[u8],
     picture: &mut [u8],
     strip: &mut [u8],
-    x: u32,
-    y: u32,
-    color: [u8; 4],
 ) -> io::Result<()> {
+    let [r, g, b, a] = paint.color;
     let answer = letchwater_retouch(
-        width, height, chain, data, picture, strip, x, y, color[0], color[1], color[2], color[3],
+        paint.width,
+        paint.height,
+        chain,
+        data,
+        picture,
+        strip,
+        paint.x,
+        paint.y,
+        r,
+        g,
+        b,
+        a,
     );
     line(rt, name, ", retouched", answer, picture)?;
     bytes_line(rt, "its strip", strip)

@@ -1,5 +1,5 @@
 // Retouches: each call of a list on what the last one left.
-use crate::calls::retouch;
+use crate::calls::{Paint, retouch};
 use crate::chains::{color_table, predictor};
 use std::io;
 
@@ -16,9 +16,14 @@ fn three_wide(
     x: u32,
 ) -> io::Result<()> {
     let data = [0, 0, 0, 255];
-    let color = [9, 0, 0, 255];
-    let chain = predictor();
-    retouch(rt, name, 3, 1, &chain, &data, picture, strip, x, 0, color)
+    let paint = Paint {
+        width: 3,
+        height: 1,
+        x,
+        y: 0,
+        color: [9, 0, 0, 255],
+    };
+    retouch(rt, name, paint, &predictor(), &data, picture, strip)
 }
 
 // The middle, the same again, and a point outside.
@@ -35,18 +40,22 @@ pub fn shared(rt: &impl Print) -> io::Result<()> {
     let mut picture = black();
     let mut strip = [0u8; 12];
     let name = "1 by 3, the top";
+    let data = [0, 0, 0, 255];
+    let paint = Paint {
+        width: 1,
+        height: 3,
+        x: 0,
+        y: 0,
+        color: [9, 0, 0, 255],
+    };
     retouch(
         rt,
         name,
-        1,
-        3,
+        paint,
         &predictor(),
-        &[0, 0, 0, 255],
+        &data,
         &mut picture,
         &mut strip,
-        0,
-        0,
-        [9, 0, 0, 255],
     )
 }
 
@@ -68,18 +77,22 @@ pub fn five(rt: &impl Print) -> io::Result<()> {
     let mut picture = black_eight();
     let mut strip = [0u8; 32];
     let name = "4 by 2, mode 10";
+    let data = [0, 10, 0, 255];
+    let paint = Paint {
+        width: 4,
+        height: 2,
+        x: 2,
+        y: 0,
+        color: [128, 0, 0, 255],
+    };
     retouch(
         rt,
         name,
-        4,
-        2,
+        paint,
         &predictor(),
-        &[0, 10, 0, 255],
+        &data,
         &mut picture,
         &mut strip,
-        2,
-        0,
-        [128, 0, 0, 255],
     )
 }
 
@@ -92,9 +105,21 @@ fn of_two(
     color: [u8; 4],
 ) -> io::Result<()> {
     let entries = [1, 2, 3, 4, 5, 6, 7, 8];
-    let chain = color_table(2, 8);
+    let paint = Paint {
+        width: 3,
+        height: 1,
+        x,
+        y: 0,
+        color,
+    };
     retouch(
-        rt, name, 3, 1, &chain, &entries, picture, strip, x, 0, color,
+        rt,
+        name,
+        paint,
+        &color_table(2, 8),
+        &entries,
+        picture,
+        strip,
     )
 }
 

@@ -9,7 +9,11 @@ use Rattle.chain.proofs.read_records.Given as goal
 
 abbrev pub invariant-loop-k : goal.invariant-loop-k
 invariant-loop-k l =
-    (l.k ≤ l.count) × (l.count ≡ length l.chain / 16) × (records_refusal l.chain l.width l.height l.data l.k ≡ 0) × (l.current ≡ width_at l.chain l.width l.k) × (length l.steps ≡ 4)
+    (l.k ≤ l.count)
+    × (l.count ≡ length l.chain / 16)
+    × (records_refusal l.chain l.width l.height l.data l.k ≡ 0)
+    × (l.current ≡ width_at l.chain l.width l.k)
+    × (length l.steps ≡ 4)
     × StepsTo l.k l.width l.chain l.steps
 
 abbrev pub decreases-loop-k : goal.decreases-loop-k

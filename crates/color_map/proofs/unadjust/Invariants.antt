@@ -8,7 +8,10 @@ use Rattle.color_map.proofs.unadjust.Given as goal
 
 abbrev pub invariant-loop-i : goal.invariant-loop-i
 invariant-loop-i l =
-    (4 ≤ l.i) × (l.i ≤ length l.initial.color_map) × (length l.color_map ≡ length l.initial.color_map) × (l.color_map ≡ run byte_cells (λ p j. unadjusted (byte_at l.initial.color_map) j) l.i (length l.initial.color_map - l.i) l.initial.color_map)
+    (4 ≤ l.i)
+    × (l.i ≤ length l.initial.color_map)
+    × (length l.color_map ≡ length l.initial.color_map)
+    × (l.color_map ≡ run byte_cells (λ p j. unadjusted (byte_at l.initial.color_map) j) l.i (length l.initial.color_map - l.i) l.initial.color_map)
 
 abbrev pub decreases-loop-i : goal.decreases-loop-i
 decreases-loop-i l = l.i

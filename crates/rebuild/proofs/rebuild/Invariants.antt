@@ -9,7 +9,10 @@ use Rattle.rebuild.proofs.rebuild.Given as goal
 
 abbrev pub invariant-loop-k : goal.invariant-loop-k
 invariant-loop-k l =
-    (l.k ≤ l.count) × (l.count ≡ record_count l.chain) × (length l.image ≡ length l.initial.image) × (Rebuilt l.chain l.width l.height l.data l.k l.image ≡ Rebuilt l.chain l.width l.height l.data (record_count l.chain) l.initial.image)
+    (l.k ≤ l.count)
+    × (l.count ≡ record_count l.chain)
+    × (length l.image ≡ length l.initial.image)
+    × (Rebuilt l.chain l.width l.height l.data l.k l.image ≡ Rebuilt l.chain l.width l.height l.data (record_count l.chain) l.initial.image)
 
 abbrev pub decreases-loop-k : goal.decreases-loop-k
 decreases-loop-k l = l.k

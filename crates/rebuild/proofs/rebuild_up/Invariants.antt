@@ -8,7 +8,9 @@ use Rattle.rebuild.proofs.rebuild_up.Given as goal
 
 abbrev pub invariant-loop-y : goal.invariant-loop-y
 invariant-loop-y l =
-    (l.y ≤ l.height) × (length l.image ≡ length l.initial.image) × (l.image ≡ rows_rebuilt l.s l.data l.y l.height l.initial.image)
+    (l.y ≤ l.height)
+    × (length l.image ≡ length l.initial.image)
+    × (l.image ≡ rows_rebuilt l.s l.data l.y l.height l.initial.image)
 
 abbrev pub decreases-loop-y : goal.decreases-loop-y
 decreases-loop-y l = l.y

@@ -9,7 +9,9 @@ use Rattle.color.proofs.color.rebuild_row.Given as goal
 
 abbrev pub invariant-loop-x : goal.invariant-loop-x
 invariant-loop-x l =
-    (l.x ≤ l.width) × (length l.row ≡ length l.initial.row) × (l.row ≡ run pixel_cells (pointwise (in_row inverse_color l.bits (pixels l.blocks))) 0 l.x l.initial.row)
+    (l.x ≤ l.width)
+    × (length l.row ≡ length l.initial.row)
+    × (l.row ≡ run pixel_cells (pointwise (in_row inverse_color l.bits (pixels l.blocks))) 0 l.x l.initial.row)
 
 abbrev pub decreases-loop-x : goal.decreases-loop-x
 decreases-loop-x l = l.width - l.x

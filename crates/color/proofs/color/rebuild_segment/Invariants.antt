@@ -7,7 +7,10 @@ use Rattle.color.proofs.color.rebuild_segment.Given as goal
 
 abbrev pub invariant-loop-i : goal.invariant-loop-i
 invariant-loop-i l =
-    (l.from ≤ l.i) × (l.i ≤ l.to) × (length l.row ≡ length l.initial.row) × Made inverse_color l.green_to_red l.green_to_blue l.red_to_blue l.from l.i l.initial.row l.row
+    (l.from ≤ l.i)
+    × (l.i ≤ l.to)
+    × (length l.row ≡ length l.initial.row)
+    × Made inverse_color l.green_to_red l.green_to_blue l.red_to_blue l.from l.i l.initial.row l.row
 
 abbrev pub decreases-loop-i : goal.decreases-loop-i
 decreases-loop-i l = l.to - l.i

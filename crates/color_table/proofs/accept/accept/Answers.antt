@@ -12,4 +12,13 @@ returns-then-not-accept_groups c =
 
 pub accept_each-requires : goal.accept_each-requires
 accept_each-requires c =
-    record { table = record { some = omega arith; most = omega arith; there = omega arith; hinted = c.requires.hints }; from_le_to = (omega arith, omega arith); row_value = sym c.accept_groups.ensures ∙ c.if-not-accept_groups.false }
+    record {
+      table = record {
+        some = omega arith;
+        most = omega arith;
+        there = omega arith;
+        hinted = c.requires.hints;
+      };
+      from_le_to = (omega arith, omega arith);
+      row_value = sym c.accept_groups.ensures ∙ c.if-not-accept_groups.false;
+    }

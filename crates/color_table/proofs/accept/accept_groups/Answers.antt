@@ -14,7 +14,11 @@ loop-i-init c =
 
 pub accept_group-requires : goal.accept_group-requires
 accept_group-requires c =
-    let l = c.loop-i in record { table = c.requires.table; i_in_bounds = omega arith; row_value = (l.invariant.2, l.invariant.3) }
+    let l = c.loop-i in record {
+      table = c.requires.table;
+      i_in_bounds = omega arith;
+      row_value = (l.invariant.2, l.invariant.3);
+    }
 
 pub returns-then-not-accept_group : goal.returns-then-not-accept_group
 returns-then-not-accept_group c =

@@ -9,7 +9,10 @@ use Rattle.color_table.proofs.accept.accept_groups.Given as goal
 
 abbrev pub invariant-loop-i : goal.invariant-loop-i
 invariant-loop-i l =
-    (l.i % 16 ≡ 0) × (l.i ≤ l.count) × (have_entries l.size (pixels l.entries) l.i (pixels l.row) ≡ true) × (has_entry l.size (pixels l.entries) (unword l.a) ≡ true)
+    (l.i % 16 ≡ 0)
+    × (l.i ≤ l.count)
+    × (have_entries l.size (pixels l.entries) l.i (pixels l.row) ≡ true)
+    × (has_entry l.size (pixels l.entries) (unword l.a) ≡ true)
 
 abbrev pub decreases-loop-i : goal.decreases-loop-i
 decreases-loop-i l = l.count - l.i

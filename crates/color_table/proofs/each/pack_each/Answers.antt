@@ -15,7 +15,10 @@ overflow_mul-j c =
 
 pub pack_record-requires : goal.pack_record-requires
 pack_record-requires c =
-    record { packs = c.requires.packs; a_lt_width = record_first c.args.p.width _ _ c.loop-j.j c.requires.packs.row.places (omega arith) }
+    record {
+      packs = c.requires.packs;
+      a_lt_width = record_first c.args.p.width _ _ c.loop-j.j c.requires.packs.row.places (omega arith);
+    }
 
 pub loop-j-preserved : goal.loop-j-preserved
 loop-j-preserved c =

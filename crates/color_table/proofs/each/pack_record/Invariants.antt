@@ -10,7 +10,12 @@ use Rattle.color_table.proofs.each.pack_record.Given as goal
 
 abbrev pub invariant-loop-k : goal.invariant-loop-k
 invariant-loop-k l =
-    (l.k ≤ l.p.n) × (l.b ≡ digits l.p.range l.k (row_indices l.p.width l.p.size (pixels l.entries) (pixels l.row) l.a)) × (l.weight ≡ l.p.range ^ l.k) × (l.b < l.weight) × (l.weight ≤ 256) × Base l.p.size l.p.n l.p.range
+    (l.k ≤ l.p.n)
+    × (l.b ≡ digits l.p.range l.k (row_indices l.p.width l.p.size (pixels l.entries) (pixels l.row) l.a))
+    × (l.weight ≡ l.p.range ^ l.k)
+    × (l.b < l.weight)
+    × (l.weight ≤ 256)
+    × Base l.p.size l.p.n l.p.range
     × (l.p.width ≤ l.a + l.k → l.index ≡ row_indices l.p.width l.p.size (pixels l.entries) (pixels l.row) l.a l.k)
 
 abbrev pub decreases-loop-k : goal.decreases-loop-k

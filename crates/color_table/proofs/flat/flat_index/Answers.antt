@@ -17,7 +17,10 @@ word_at-requires c = let t = c.requires.few in let m = t.some in let l = t.there
 
 pub overflow_add-r : goal.overflow_add-r
 overflow_add-r c =
-    let t = c.requires.few in let m = t.few in let u : c.unless-r.result ≤ 1 = unless_small _ (c.loop-j.found || c.same-found.result) c.unless-r.ensures in omega arith
+    let t = c.requires.few in
+    let m = t.few in
+    let u : c.unless-r.result ≤ 1 = unless_small _ (c.loop-j.found || c.same-found.result) c.unless-r.ensures in
+    omega arith
 
 pub overflow_add-j : goal.overflow_add-j
 overflow_add-j c = let t = c.requires.few in let m = t.few in omega arith
@@ -33,4 +36,7 @@ loop-j-preserved c =
 
 pub returns : goal.returns
 returns c =
-    let t = c.requires.few in let m = t.most in let h = c.requires.w_bound in before_all _ c.loop-j.j _ c.loop-j.invariant.3 (omega arith)
+    let t = c.requires.few in
+    let m = t.most in
+    let h = c.requires.w_bound in
+    before_all _ c.loop-j.j _ c.loop-j.invariant.3 (omega arith)

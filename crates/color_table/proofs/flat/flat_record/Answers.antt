@@ -30,22 +30,35 @@ flat_index-requires c =
     let few = c.requires.few in
     let t = c.loop-k.invariant.5.two in
     let u : c.args.range - 1 + 1 ≡ c.args.range = omega arith in
-    record { few = rw u few; w_bound = column_below _ _ _ c.args.width (c.args.a + c.loop-k.k) _ c.requires.row.taken c.word_at.ensures (omega arith) }
+    record {
+      few = rw u few;
+      w_bound = column_below _ _ _ c.args.width (c.args.a + c.loop-k.k) _ c.requires.row.taken c.word_at.ensures (omega arith);
+    }
 
 pub overflow_mul-b : goal.overflow_mul-b
 overflow_mul-b c =
-    let x = row_inside _ _ _ c.args.width c.args.a c.loop-k.k _ _ c.requires.row.taken c.word_at.ensures c.flat_index.ensures (omega arith) in let few = c.requires.few in let f = few.few in let m = few.most in let l = c.loop-k in omega (arith, small_product l.weight c.flat_index.result l.invariant.4 (omega arith))
+    let x = row_inside _ _ _ c.args.width c.args.a c.loop-k.k _ _ c.requires.row.taken c.word_at.ensures c.flat_index.ensures (omega arith) in
+    let f = c.requires.few.few in
+    let m = c.requires.few.most in
+    let l = c.loop-k in
+    omega (arith, small_product l.weight c.flat_index.result l.invariant.4 (omega arith))
 
 pub overflow_add-b : goal.overflow_add-b
 overflow_add-b c =
-    let x = row_inside _ _ _ c.args.width c.args.a c.loop-k.k _ _ c.requires.row.taken c.word_at.ensures c.flat_index.ensures (omega arith) in let few = c.requires.few in let f = few.few in let m = few.most in let l = c.loop-k in omega (arith, small_product l.weight c.flat_index.result l.invariant.4 (omega arith))
+    let x = row_inside _ _ _ c.args.width c.args.a c.loop-k.k _ _ c.requires.row.taken c.word_at.ensures c.flat_index.ensures (omega arith) in
+    let f = c.requires.few.few in
+    let m = c.requires.few.most in
+    let l = c.loop-k in
+    omega (arith, small_product l.weight c.flat_index.result l.invariant.4 (omega arith))
 
 pub overflow_cast-weight : goal.overflow_cast-weight
 overflow_cast-weight c = let f = c.requires.few.few in omega arith
 
 pub overflow_mul-weight : goal.overflow_mul-weight
 overflow_mul-weight c =
-    let f = c.requires.few.few in let l = c.loop-k in omega (arith, small_product l.weight c.args.range l.invariant.4 l.invariant.5.most)
+    let f = c.requires.few.few in
+    let l = c.loop-k in
+    omega (arith, small_product l.weight c.args.range l.invariant.4 l.invariant.5.most)
 
 pub loop-k-preserved : goal.loop-k-preserved
 loop-k-preserved c =

@@ -16,7 +16,11 @@ loop-j-init c = (omega arith, omega arith, refl, given_none _ _ _)
 
 pub put_bits-requires : goal.put_bits-requires
 put_bits-requires c =
-    let i = inside c.args.width c.args.size c.requires.row.places in record { few = c.requires.few; row = c.requires.row; j_bound = (omega arith, omega arith) }
+    let i = inside c.args.width c.args.size c.requires.row.places in record {
+      few = c.requires.few;
+      row = c.requires.row;
+      j_bound = (omega arith, omega arith);
+    }
 
 pub loop-j-preserved : goal.loop-j-preserved
 loop-j-preserved c =

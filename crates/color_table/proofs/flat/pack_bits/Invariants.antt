@@ -9,7 +9,10 @@ use Rattle.color_table.proofs.flat.pack_bits.Given as goal
 
 abbrev pub invariant-loop-j : goal.invariant-loop-j
 invariant-loop-j l =
-    (l.j % 4 ≡ 0) × (l.j ≤ l.to) × (length l.out ≡ length l.initial.out) × (l.out ≡ run pixel_cells (given (packed l.width l.size (pixels l.entries) (pixels l.row))) 0 l.j l.initial.out)
+    (l.j % 4 ≡ 0)
+    × (l.j ≤ l.to)
+    × (length l.out ≡ length l.initial.out)
+    × (l.out ≡ run pixel_cells (given (packed l.width l.size (pixels l.entries) (pixels l.row))) 0 l.j l.initial.out)
 
 abbrev pub decreases-loop-j : goal.decreases-loop-j
 decreases-loop-j l = l.to - l.j

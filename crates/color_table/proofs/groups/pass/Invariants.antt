@@ -8,7 +8,10 @@ use Rattle.color_table.proofs.groups.pass.Given as goal
 
 abbrev pub invariant-loop-i : goal.invariant-loop-i
 invariant-loop-i l =
-    (l.i % 16 ≡ 0) × (l.from ≤ l.i) × (l.i ≤ l.to) × EachOf (unword l.a) (unword l.b) (pixels l.row) l.from (l.i - l.from)
+    (l.i % 16 ≡ 0)
+    × (l.from ≤ l.i)
+    × (l.i ≤ l.to)
+    × EachOf (unword l.a) (unword l.b) (pixels l.row) l.from (l.i - l.from)
 
 abbrev pub decreases-loop-i : goal.decreases-loop-i
 decreases-loop-i l = l.to - l.i

@@ -23,7 +23,12 @@ nonzero_div-to c = let b = base_in _ _ _ _ c.requires.packs in omega arith
 
 pub pack_each-requires : goal.pack_each-requires
 pack_each-requires c =
-    let a = all c.args.p.width c.args.p.n c.args.p.size c.requires.packs.row.places in let f = c.pack_front-from.ensures.0 in record { packs = c.requires.packs; from_le_to = (omega arith, omega arith, omega arith) }
+    let a = all c.args.p.width c.args.p.n c.args.p.size c.requires.packs.row.places in
+    let f = c.pack_front-from.ensures.0 in
+    record {
+      packs = c.requires.packs;
+      from_le_to = (omega arith, omega arith, omega arith);
+    }
 
 pub returns : goal.returns
 returns c =

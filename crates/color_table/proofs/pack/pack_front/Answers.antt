@@ -7,4 +7,8 @@ pub pack_bits-requires : goal.pack_bits-requires
 pack_bits-requires c =
     let q = c.if-p-eq8.true in
     let row = row_at 8 _ _ _ _ _ _ q c.requires.packs.row in
-    record { few = pair_of _ _ row.places c.requires.packs.table.most c.requires.packs.table.some c.requires.packs.table.there; row = row; width_in_bounds = c.requires.width_in_bounds }
+    record {
+      few = pair_of _ _ row.places c.requires.packs.table.most c.requires.packs.table.some c.requires.packs.table.there;
+      row = row;
+      width_in_bounds = c.requires.width_in_bounds;
+    }

@@ -10,7 +10,10 @@ use Rattle.color_table.proofs.runs.fill_groups.Given as goal
 
 abbrev pub invariant-loop-g : goal.invariant-loop-g
 invariant-loop-g l =
-    (l.last.groups ≤ l.g) × (l.g ≤ l.groups) × (length l.out ≡ length l.initial.out) × ((q : ℕ) → 16 * l.last.groups ≤ q → q < 16 * l.g → pixels l.row q ≡ unword l.last.word)
+    (l.last.groups ≤ l.g)
+    × (l.g ≤ l.groups)
+    × (length l.out ≡ length l.initial.out)
+    × ((q : ℕ) → 16 * l.last.groups ≤ q → q < 16 * l.g → pixels l.row q ≡ unword l.last.word)
     × (l.out ≡ run pixel_cells (given (plain (unword l.last.packed))) (l.last.groups * (16 / l.n)) (l.g * (16 / l.n) - l.last.groups * (16 / l.n)) l.initial.out)
 
 abbrev pub decreases-loop-g : goal.decreases-loop-g

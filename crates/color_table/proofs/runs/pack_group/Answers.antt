@@ -13,7 +13,11 @@ pub put_pairs-requires : goal.put_pairs-requires
 put_pairs-requires c =
     let q = c.if-p-eq4.true in
     let l = rw q at c.requires.g_bound.1 in
-    record { few = few_of _ _ _ _ q (base_in _ _ _ _ c.requires.packs) c.requires.packs.row.base c.requires.packs.table.there; row = row_at 4 _ _ _ _ _ _ q c.requires.packs.row; j_bound = (omega arith, omega arith) }
+    record {
+      few = few_of _ _ _ _ q (base_in _ _ _ _ c.requires.packs) c.requires.packs.row.base c.requires.packs.table.there;
+      row = row_at 4 _ _ _ _ _ _ q c.requires.packs.row;
+      j_bound = (omega arith, omega arith);
+    }
 
 pub overflow_mul-j : goal.overflow_mul-j
 overflow_mul-j c = let w = c.requires.packs.row.narrow in omega arith
@@ -25,7 +29,11 @@ pub pack_doubles-requires : goal.pack_doubles-requires
 pack_doubles-requires c =
     let q = c.if-p-eq2.true in
     let l = rw q at c.requires.g_bound.1 in
-    record { table = c.requires.packs.table; row = row_at 2 _ _ _ _ _ _ q c.requires.packs.row; from_le_to = (omega arith, omega arith, omega arith) }
+    record {
+      table = c.requires.packs.table;
+      row = row_at 2 _ _ _ _ _ _ q c.requires.packs.row;
+      from_le_to = (omega arith, omega arith, omega arith);
+    }
 
 pub nonzero_div-m : goal.nonzero_div-m
 nonzero_div-m c = let p = (base_in _ _ _ _ c.requires.packs).some in omega arith

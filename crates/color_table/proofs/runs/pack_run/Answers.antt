@@ -30,14 +30,20 @@ turn m g groups l = mul-le-mul_right {m = g + 1} {n = groups} m (omega arith)
 
 pub fill_run-g-requires : goal.fill_run-g-requires
 fill_run-g-requires c =
-    let t = c.requires.packs.row.there in record { places = (base_in _ _ _ _ c.requires.packs).places; groups_le_groups = (omega arith, omega arith, c.requires.groups_lt_groups.2) }
+    let t = c.requires.packs.row.there in record {
+      places = (base_in _ _ _ _ c.requires.packs).places;
+      groups_le_groups = (omega arith, omega arith, c.requires.groups_lt_groups.2);
+    }
 
 pub returns-then-groups-g : goal.returns-then-groups-g
 returns-then-groups-g c = let f = c.fill_run-g.ensures in (omega arith, f.to, c.requires.last_of, filled _ _ _ _ c.args.last _ _ _ _ c.requires.packs c.requires.last_of c.requires.groups_lt_groups.1 f)
 
 pub pack_group-requires : goal.pack_group-requires
 pack_group-requires c =
-    let r = turn (16 / c.args.p.n) c.fill_run-g.result c.args.groups (omega arith) in record { packs = c.requires.packs; g_bound = (omega arith, omega arith) }
+    let r = turn (16 / c.args.p.n) c.fill_run-g.result c.args.groups (omega arith) in record {
+      packs = c.requires.packs;
+      g_bound = (omega arith, omega arith);
+    }
 
 pub last_of-requires : goal.last_of-requires
 last_of-requires c = record { packs = c.requires.packs; x_lt_width = omega arith }

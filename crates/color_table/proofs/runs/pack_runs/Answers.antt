@@ -32,7 +32,11 @@ loop-last-init c = let e = c.last_of-last.ensures in (omega arith, refl, e.1, rw
 
 pub pack_run-last-requires : goal.pack_run-last-requires
 pack_run-last-requires c =
-    let i = inside _ _ _ _ c.requires.packs in let l = c.loop-last in record { packs = c.requires.packs; groups_lt_groups = (omega arith, omega arith, omega arith); last_of = l.invariant.2 }
+    let i = inside _ _ _ _ c.requires.packs in let l = c.loop-last in record {
+      packs = c.requires.packs;
+      groups_lt_groups = (omega arith, omega arith, omega arith);
+      last_of = l.invariant.2;
+    }
 
 pub loop-last-smaller : goal.loop-last-smaller
 loop-last-smaller c = let p = c.pack_run-last.ensures in omega arith

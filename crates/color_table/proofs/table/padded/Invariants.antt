@@ -9,7 +9,10 @@ use Rattle.color_table.proofs.table.padded.Given as goal
 
 abbrev pub invariant-loop-i : goal.invariant-loop-i
 invariant-loop-i l =
-    (l.i ≤ l.size) × (length l.table ≡ 256) × ((j : ℕ) → j < l.i → entry_in l.table j ≡ pixels l.entries j) × ((j : ℕ) → l.i ≤ j → entry_in l.table j ≡ clear)
+    (l.i ≤ l.size)
+    × (length l.table ≡ 256)
+    × ((j : ℕ) → j < l.i → entry_in l.table j ≡ pixels l.entries j)
+    × ((j : ℕ) → l.i ≤ j → entry_in l.table j ≡ clear)
 
 abbrev pub decreases-loop-i : goal.decreases-loop-i
 decreases-loop-i l = l.size - l.i

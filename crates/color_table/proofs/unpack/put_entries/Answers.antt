@@ -15,4 +15,6 @@ put_pixel-requires-4 c = omega (arith, c.requires.0, c.put_pixel.auto.xs, c.put_
 
 pub returns : goal.returns
 returns c =
-    λ f h. given_four f _ _ _ _ _ _ _ _ _ _ c.put_pixel.ensures c.put_pixel-2.ensures c.put_pixel-3.ensures c.put_pixel-4.ensures (c.pixel_at-a.ensures ∙ h.first) (c.pixel_at-b.ensures ∙ h.second) (c.pixel_at-c.ensures ∙ h.third) (c.pixel_at-d.ensures ∙ h.fourth)
+    λ f h. given_four f _ _ _ _ _ _ _ _ _ _ c.put_pixel.ensures c.put_pixel-2.ensures c.put_pixel-3.ensures c.put_pixel-4.ensures
+    (c.pixel_at-a.ensures ∙ h.first) (c.pixel_at-b.ensures ∙ h.second) (c.pixel_at-c.ensures ∙ h.third)
+    (c.pixel_at-d.ensures ∙ h.fourth)

@@ -7,7 +7,9 @@ use Rattle.color_table.proofs.unpack.unpack_eights.Given as goal
 
 abbrev pub invariant-loop-k : goal.invariant-loop-k
 invariant-loop-k l =
-    (l.k ≤ l.count) × (length l.part ≡ length l.initial.part) × Columns 8 l.columns l.first (8 * l.k) (8 * l.count - 8 * l.k) l.initial.part l.part
+    (l.k ≤ l.count)
+    × (length l.part ≡ length l.initial.part)
+    × Columns 8 l.columns l.first (8 * l.k) (8 * l.count - 8 * l.k) l.initial.part l.part
 
 abbrev pub decreases-loop-k : goal.decreases-loop-k
 decreases-loop-k l = l.k

@@ -7,7 +7,10 @@ use Rattle.predictor.proofs.forward.store_left.Given as goal
 
 abbrev pub invariant-loop-x : goal.invariant-loop-x
 invariant-loop-x l =
-    (1 ≤ l.x) × (l.x ≤ l.width) × (length l.out ≡ length l.initial.out) × (l.out ≡ run pixel_cells (given (left_residual (pixels l.row))) 1 (l.x - 1) l.initial.out)
+    (1 ≤ l.x)
+    × (l.x ≤ l.width)
+    × (length l.out ≡ length l.initial.out)
+    × (l.out ≡ run pixel_cells (given (left_residual (pixels l.row))) 1 (l.x - 1) l.initial.out)
 
 abbrev pub decreases-loop-x : goal.decreases-loop-x
 decreases-loop-x l = l.width - l.x

@@ -9,7 +9,10 @@ gain_four-between-requires c = record { i_in_bounds = omega arith; ahead = c.req
 pub gain_four-before-requires : goal.gain_four-before-requires
 gain_four-before-requires c =
     let g = c.gain_four-between.ensures in
-    record { i_in_bounds = omega arith; ahead = ahead_next _ _ 4 _ _ g.0 (omega arith) (omega arith) _ _ _ _ _ (omega arith) (omega arith) g.1 g.2 c.requires.prepared.more }
+    record {
+      i_in_bounds = omega arith;
+      ahead = ahead_next _ _ 4 _ _ g.0 (omega arith) (omega arith) _ _ _ _ _ (omega arith) (omega arith) g.1 g.2 c.requires.prepared.more;
+    }
 
 pub returns : goal.returns
 returns c =

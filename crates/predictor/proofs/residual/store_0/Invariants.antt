@@ -7,7 +7,10 @@ use Rattle.predictor.proofs.residual.store_0.Given as goal
 
 abbrev pub invariant-loop-x : goal.invariant-loop-x
 invariant-loop-x l =
-    (l.from ≤ l.x) × (l.x ≤ l.to) × (length l.out ≡ length l.initial.out) × (l.out ≡ run pixel_cells (given (residual (around 0 l.w) l.w (pixels l.rows))) l.from (l.x - l.from) l.initial.out)
+    (l.from ≤ l.x)
+    × (l.x ≤ l.to)
+    × (length l.out ≡ length l.initial.out)
+    × (l.out ≡ run pixel_cells (given (residual (around 0 l.w) l.w (pixels l.rows))) l.from (l.x - l.from) l.initial.out)
 
 abbrev pub decreases-loop-x : goal.decreases-loop-x
 decreases-loop-x l = l.to - l.x

@@ -7,7 +7,10 @@ use Rattle.predictor.proofs.residual.store_bytes.Given as goal
 
 abbrev pub invariant-loop-i : goal.invariant-loop-i
 invariant-loop-i l =
-    (l.from ≤ l.i) × (l.i ≤ l.to) × (length l.out ≡ length l.initial.out) × (l.out ≡ run byte_cells (given (byte_residual l.mode l.stride (byte_at l.rows))) l.from (l.i - l.from) l.initial.out)
+    (l.from ≤ l.i)
+    × (l.i ≤ l.to)
+    × (length l.out ≡ length l.initial.out)
+    × (l.out ≡ run byte_cells (given (byte_residual l.mode l.stride (byte_at l.rows))) l.from (l.i - l.from) l.initial.out)
 
 abbrev pub decreases-loop-i : goal.decreases-loop-i
 decreases-loop-i l = l.to - l.i

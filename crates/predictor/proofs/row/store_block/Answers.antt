@@ -7,4 +7,7 @@ use Rattle.predictor.proofs.row.store_block.Goals as goal
 pub returns : goal.returns
 returns c =
     let b = c.block_end-e.ensures in
-    let a = c.args in record { block_end = b; out_after = given_block a.width a.bits (pixels a.blocks.now) a.x _ _ (pixels a.rows.now) _ _ c.store_segment.ensures c.mode_at-mode.ensures b (search rules) }
+    let a = c.args in record {
+      block_end = b;
+      out_after = given_block a.width a.bits (pixels a.blocks.now) a.x _ _ (pixels a.rows.now) _ _ c.store_segment.ensures c.mode_at-mode.ensures b (search rules);
+    }

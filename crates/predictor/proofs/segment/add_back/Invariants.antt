@@ -6,7 +6,10 @@ use Rattle.predictor.proofs.segment.add_back.Given as goal
 
 abbrev pub invariant-loop-i : goal.invariant-loop-i
 invariant-loop-i l =
-    (l.from ≤ l.i) × (l.i ≤ l.to) × (length l.rows ≡ length l.initial.rows) × (l.rows ≡ run byte_cells (bytewise first l.back l.back) l.from (l.i - l.from) l.initial.rows)
+    (l.from ≤ l.i)
+    × (l.i ≤ l.to)
+    × (length l.rows ≡ length l.initial.rows)
+    × (l.rows ≡ run byte_cells (bytewise first l.back l.back) l.from (l.i - l.from) l.initial.rows)
 
 abbrev pub decreases-loop-i : goal.decreases-loop-i
 decreases-loop-i l = l.to - l.i

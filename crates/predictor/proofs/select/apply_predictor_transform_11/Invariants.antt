@@ -8,7 +8,11 @@ use Rattle.predictor.proofs.select.apply_predictor_transform_11.Given as goal
 
 abbrev pub invariant-loop-i : goal.invariant-loop-i
 invariant-loop-i l =
-    (l.from ≤ l.i) × (l.i ≤ l.to) × (length l.rows ≡ length l.initial.rows) × (l.rows ≡ run pixel_cells (gains (around 11 l.w)) l.from (l.i - l.from) l.initial.rows) × (l.left ≡ pixels l.rows (l.i - 1))
+    (l.from ≤ l.i)
+    × (l.i ≤ l.to)
+    × (length l.rows ≡ length l.initial.rows)
+    × (l.rows ≡ run pixel_cells (gains (around 11 l.w)) l.from (l.i - l.from) l.initial.rows)
+    × (l.left ≡ pixels l.rows (l.i - 1))
     × (l.near ≡ left_nearer l.w (pixels l.rows) l.i)
 
 abbrev pub decreases-loop-i : goal.decreases-loop-i

@@ -8,4 +8,7 @@ returns c =
     let h = c.choose.ensures in
     let t = c.pixel_at-t.ensures in
     let n = c.pixel_at-next.ensures in
-    let v = c.pixel_at.ensures in record { pixel_value = h.pixel_value ∙ rw (v, t, c.requires.left_value.0, c.requires.left_value.1, around_11); near_value = h.near_value ∙ rw (n, t) }
+    let v = c.pixel_at.ensures in record {
+      pixel_value = h.pixel_value ∙ rw (v, t, c.requires.left_value.0, c.requires.left_value.1, around_11);
+      near_value = h.near_value ∙ rw (n, t);
+    }

@@ -19,7 +19,10 @@ rebuild_row_at-requires c =
 pub rebuild_row_at-requires-in-1 : goal.rebuild_row_at-requires-in-1
 rebuild_row_at-requires-in-1 c =
     let r = c.requires.0 in
-    record { sized = (r.sized, part_blocks _ _ _ r.valid _ c.part_of-in-1.ensures (omega (arith, c.in-1.is)), c.requires.2); holds = r.room }
+    record {
+      sized = (r.sized, part_blocks _ _ _ r.valid _ c.part_of-in-1.ensures (omega (arith, c.in-1.is)), c.requires.2);
+      holds = r.room;
+    }
 
 pub rebuild_row_at-requires-in-2 : goal.rebuild_row_at-requires-in-2
 rebuild_row_at-requires-in-2 c = let r = c.requires.0 in record { sized = (r.sized, c.requires.2); holds = r.room }

@@ -13,7 +13,19 @@ loop-i-init c = (omega arith, omega arith, c.no_counts-counts.ensures)
 pub count_run-i-requires : goal.count_run-i-requires
 count_run-i-requires c =
     let l = c.loop-i.invariant in
-    record { table = (c.requires.table, record { start = l.0; end = omega arith; more = omega arith; few = omega arith; there = omega arith }); counted_in = l.2 }
+    record {
+      table = (
+        c.requires.table,
+        record {
+          start = l.0;
+          end = omega arith;
+          more = omega arith;
+          few = omega arith;
+          there = omega arith;
+        },
+      );
+      counted_in = l.2;
+    }
 
 pub loop-i-smaller : goal.loop-i-smaller
 loop-i-smaller c = omega (arith, c.count_run-i.ensures.1)
@@ -25,7 +37,11 @@ pub count_each-requires : goal.count_each-requires
 count_each-requires c =
     let l = c.loop-i in
     let q : l.i ≡ c.args.count / 16 * 16 = omega arith in
-    record { table = c.requires.table; from_le_to = (omega arith, omega arith, omega arith); counted_in = rw q at l.invariant.2 }
+    record {
+      table = c.requires.table;
+      from_le_to = (omega arith, omega arith, omega arith);
+      counted_in = rw q at l.invariant.2;
+    }
 
 pub returns : goal.returns
 returns c = c.count_each.ensures

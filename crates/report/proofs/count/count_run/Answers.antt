@@ -7,7 +7,10 @@ count_same-j-requires c = c.requires
 
 pub returns-then-whole-j : goal.returns-then-whole-j
 returns-then-whole-j c =
-    let e = c.count_same-j.ensures in let g = c.requires.table.1 in let t = c.if-whole-j.true in (e.0, omega arith, e.2, e.3)
+    let e = c.count_same-j.ensures in
+    let g = c.requires.table.1 in
+    let t = c.if-whole-j.true in
+    (e.0, omega arith, e.2, e.3)
 
 pub overflow_add-j : goal.overflow_add-j
 overflow_add-j c = omega (arith, c.requires.table.1, c.if-whole-j.false)

@@ -9,7 +9,9 @@ use Rattle.report.proofs.counters.put_counters.Given as goal
 
 abbrev pub invariant-loop-i : goal.invariant-loop-i
 invariant-loop-i l =
-    (l.i ≤ 8 * l.n) × (length l.counters ≡ length l.initial.counters) × (l.counters ≡ written_bytes l.i (counter_byte (at l.numbers)) l.initial.counters)
+    (l.i ≤ 8 * l.n)
+    × (length l.counters ≡ length l.initial.counters)
+    × (l.counters ≡ written_bytes l.i (counter_byte (at l.numbers)) l.initial.counters)
 
 abbrev pub decreases-loop-i : goal.decreases-loop-i
 decreases-loop-i l = 8 * l.n - l.i

@@ -6,11 +6,17 @@ use Rattle.report.proofs.report.report.Goals as goal
 
 pub returns-then-not-in_range : goal.returns-then-not-in_range
 returns-then-not-in_range c =
-    let r = width_refused _ _ _ _ _ (sym c.in_range.ensures ∙ c.if-not-in_range.true) in record { value = r.answer; counters_after = r.left }
+    let r = width_refused _ _ _ _ _ (sym c.in_range.ensures ∙ c.if-not-in_range.true) in record {
+      value = r.answer;
+      counters_after = r.left;
+    }
 
 pub returns-then-not-in_range-2 : goal.returns-then-not-in_range-2
 returns-then-not-in_range-2 c =
-    let r = height_refused _ _ _ _ _ (sym c.in_range-2.ensures ∙ c.if-not-in_range-2.true) in record { value = r.answer; counters_after = r.left }
+    let r = height_refused _ _ _ _ _ (sym c.in_range-2.ensures ∙ c.if-not-in_range-2.true) in record {
+      value = r.answer;
+      counters_after = r.left;
+    }
 
 pub report_sized-requires : goal.report_sized-requires
 report_sized-requires c =

@@ -6,7 +6,9 @@ use Rattle.retouch.proofs.mask.mask_of.Given as goal
 
 abbrev pub invariant-loop-k : goal.invariant-loop-k
 invariant-loop-k l =
-    MaskFrom l.records l.initial.k l.n (pixels l.strip) l.made l.k l.mask × (l.mask < 2 ^ (l.initial.k - l.k)) × (l.k ≤ l.initial.k)
+    MaskFrom l.records l.initial.k l.n (pixels l.strip) l.made l.k l.mask
+    × (l.mask < 2 ^ (l.initial.k - l.k))
+    × (l.k ≤ l.initial.k)
 
 abbrev pub decreases-loop-k : goal.decreases-loop-k
 decreases-loop-k l = l.k

@@ -17,4 +17,8 @@ pub returns : goal.returns
 returns c =
     let d = c.decide-decision.ensures in
     let a = c.if-decision-lt256.false in
-    record { value = d.answer; picture_after = left_picture _ _ _ _ _ _ d a _ c.requires.source.held c.requires.inside c.put_pixel.ensures; strip_after = left_strip _ _ _ _ _ _ d a _ (rw c.records_in.ensures at c.write.ensures) }
+    record {
+      value = d.answer;
+      picture_after = left_picture _ _ _ _ _ _ d a _ c.requires.source.held c.requires.inside c.put_pixel.ensures;
+      strip_after = left_strip _ _ _ _ _ _ d a _ (rw c.records_in.ensures at c.write.ensures);
+    }

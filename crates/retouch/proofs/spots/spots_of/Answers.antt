@@ -13,7 +13,10 @@ pub follow-spots-requires : goal.follow-spots-requires
 follow-spots-requires c =
     let f = c.requires.0 in
     let i = c.loop-k.invariant in
-    record { le_width = (f.wide _ (omega arith), f.narrow _ (omega arith), omega arith); sound = (i.2, (λ e. one_taken (steps_of c.args.chain) _ _ _ _ (λ j l z. f.once j _ l (omega arith) z e) i.0 (omega arith))) }
+    record {
+      le_width = (f.wide _ (omega arith), f.narrow _ (omega arith), omega arith);
+      sound = (i.2, (λ e. one_taken (steps_of c.args.chain) _ _ _ _ (λ j l z. f.once j _ l (omega arith) z e) i.0 (omega arith)));
+    }
 
 pub loop-k-preserved : goal.loop-k-preserved
 loop-k-preserved c =

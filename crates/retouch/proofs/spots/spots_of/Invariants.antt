@@ -10,7 +10,10 @@ use Rattle.retouch.proofs.spots.spots_of.Given as goal
 
 abbrev pub invariant-loop-k : goal.invariant-loop-k
 invariant-loop-k l =
-    (records_of l.spots ≡ spot_records (steps_of l.chain) l.k (l.p ∷ [])) × (first_of l.spots ≤ l.p) × Sound l.spots × (l.k ≤ l.chain.count)
+    (records_of l.spots ≡ spot_records (steps_of l.chain) l.k (l.p ∷ []))
+    × (first_of l.spots ≤ l.p)
+    × Sound l.spots
+    × (l.k ≤ l.chain.count)
 
 abbrev pub decreases-loop-k : goal.decreases-loop-k
 decreases-loop-k l = l.chain.count - l.k

@@ -7,7 +7,9 @@ use Rattle.retouch.proofs.strip.write.Given as goal
 
 abbrev pub invariant-loop-k : goal.invariant-loop-k
 invariant-loop-k l =
-    WrittenFrom l.records l.initial.k l.n l.made l.initial.strip l.k l.strip × (l.k ≤ l.initial.k) × (length l.strip ≡ length l.initial.strip)
+    WrittenFrom l.records l.initial.k l.n l.made l.initial.strip l.k l.strip
+    × (l.k ≤ l.initial.k)
+    × (length l.strip ≡ length l.initial.strip)
 
 abbrev pub decreases-loop-k : goal.decreases-loop-k
 decreases-loop-k l = l.k

@@ -13,7 +13,9 @@ use Rattle.store.proofs.accept.accept_rows.Given as goal
 
 abbrev pub invariant-loop-y : goal.invariant-loop-y
 invariant-loop-y l =
-    (l.y ≤ l.chain.height) × Scratch l.row l.rows × (have_entries l.s.size (part_of l.s l.data) (l.y * l.s.width) (stored_by l.chain l.data l.t (pixels l.picture)) ≡ true)
+    (l.y ≤ l.chain.height)
+    × Scratch l.row l.rows
+    × (have_entries l.s.size (part_of l.s l.data) (l.y * l.s.width) (stored_by l.chain l.data l.t (pixels l.picture)) ≡ true)
     × Above l.chain l.data (pixels l.picture) l.t 0 l.y l.rows
 
 abbrev pub decreases-loop-y : goal.decreases-loop-y

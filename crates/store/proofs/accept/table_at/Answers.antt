@@ -15,4 +15,8 @@ loop-t-preserved c = (omega arith, none_more _ _ c.loop-t.invariant.1 c.if-s-eq3
 
 pub returns : goal.returns
 returns c =
-    record { few = omega arith; kind = λ l. absurd (omega arith); none = λ j l e. c.loop-t.invariant.1.at j (omega arith) e }
+    record {
+      few = omega arith;
+      kind = λ l. absurd (omega arith);
+      none = λ j l e. c.loop-t.invariant.1.at j (omega arith) e;
+    }

@@ -8,7 +8,9 @@ use Rattle.store.proofs.rows.copy_pixels.Given as goal
 
 abbrev pub invariant-loop-i : goal.invariant-loop-i
 invariant-loop-i l =
-    (l.i ≤ l.count) × (length l.to ≡ length l.initial.to) × (l.to ≡ run pixel_cells (given (pixels l.from)) 0 l.i l.initial.to)
+    (l.i ≤ l.count)
+    × (length l.to ≡ length l.initial.to)
+    × (l.to ≡ run pixel_cells (given (pixels l.from)) 0 l.i l.initial.to)
 
 abbrev pub decreases-loop-i : goal.decreases-loop-i
 decreases-loop-i l = l.count - l.i

@@ -23,7 +23,10 @@ slice_bounds-copy_pixels-end c = omega (arith, c.requires.sized.0.narrow, c.requ
 
 pub copy_pixels-requires : goal.copy_pixels-requires
 copy_pixels-requires c =
-    let n = c.requires.sized.0.narrow in let o = c.requires.scratch.one in let t = c.requires.scratch.two in (omega arith, omega arith)
+    let n = c.requires.sized.0.narrow in
+    let o = c.requires.scratch.one in
+    let t = c.requires.scratch.two in
+    (omega arith, omega arith)
 
 pub slice_bounds-store_row-end : goal.slice_bounds-store_row-end
 slice_bounds-store_row-end c = omega (arith, c.requires.sized.0.narrow, c.requires.scratch.two)

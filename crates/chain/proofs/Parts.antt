@@ -21,10 +21,3 @@ module _ (s : Step) (h : ℕ) (ds : List ℕ) (valid : ValidStep s h (length ds)
 
   pub part_entries : s.kind ≡ 3 → 4 * s.size ≤ length part
   part_entries k = let q = (valid.table k).long in let p = part_length in omega arith
-
--- a valid record of none of the other kinds
-pub table_kind : (s : Step) (h n : ℕ) → ValidStep s h n → (((Unit {0} × (s.kind ≡ 0 → ⊥)) × (s.kind ≡ 1 → ⊥)) × (s.kind ≡ 2 → ⊥)) → s.kind ≡ 3
-table_kind s h n valid r = let l = valid.known in three s.kind l r.0.0.1 r.0.1 r.1
-  where
-    three : (k : ℕ) → k ≤ 3 → (k ≡ 0 → ⊥) → (k ≡ 1 → ⊥) → (k ≡ 2 → ⊥) → k ≡ 3
-    three k l a b c = omega arith

@@ -1,4 +1,5 @@
--- The loop over a chain's records: a turn reads record k as s, where the current width is x, and finds the number r.
+-- The loop over a chain's records: a turn reads record k as s, where the current width is x, and tests it.
+use Rattle.std.specs.Prelude.{Result, Ok, Err, IsErrAnd}
 use mathlib.Core.Bool.{Bool}
 use mathlib.Core.List.{List}
 use mathlib.Core.Path.{◌≡◌, sym, ap, ◌∙◌}
@@ -9,9 +10,10 @@ use native.Mathlib.Omega.{arith}
 use lib.ListN.{length, get_or, set}
 use lib.Seq.{get_or-set_other, get_or-set_same}
 use Rattle.format.specs.declared.Step.{Step}
-use Rattle.format.specs.declared.Checked.{Checked}
+use Rattle.format.specs.declared.Refusal.{Refusal}
+use Rattle.format.specs.declared.Refusal.TheVariants.{Size, ChainLength, UnknownKind, KindAgain, NotTabled, WrongLength, BeyondData, ShortBuffer, Outside, MapLength, NoEntry, NoRecord, ColorList, FullCounter}
 use Rattle.format.specs.Chain.{record_at, step_at, width_at, narrowed, count}
-use Rattle.format.specs.Refusals.{used_before, checked, number, records_refusal, input_refusal}
+use Rattle.format.specs.Refusals.{used_before, checked, number, returned, records_refusal, input_refusal}
 use Rattle.format.proofs.Valid.{records_next, refusal_lasts}
 use Rattle.format.proofs.Stages.{width_record, width_at_fewer}
 use Rattle.chain.specs.declared.Chain.{Chain}
@@ -19,32 +21,52 @@ use Rattle.chain.specs.Valid.{no_step}
 use Rattle.chain.specs.Reading.{StepsTo, ChainOf, Read}
 use Rattle.chain.proofs.Valid.{valid_of}
 
-module _ (cs : List ℕ) (w h : ℕ) (ds : List ℕ) (k x : ℕ) (s : Step) (a : Bool) (c : Checked) (r : ℕ) where
+-- what `?` hands on has the refusal's number
+pub passed_on : {A : Type 0} (r : Result A Refusal) (e : Refusal) → IsErrAnd r (λ d. d ≡ e) → returned r ≡ number e
+passed_on (Ok v) e i = absurd i
+passed_on (Err d) e i = ap number i
+
+-- a refusal's number is not 0
+pub number_some : (r : Refusal) → number r ≡ 0 → ⊥
+number_some Size e = omega arith
+number_some ChainLength e = omega arith
+number_some UnknownKind e = omega arith
+number_some KindAgain e = omega arith
+number_some NotTabled e = omega arith
+number_some WrongLength e = omega arith
+number_some BeyondData e = omega arith
+number_some ShortBuffer e = omega arith
+number_some Outside e = omega arith
+number_some MapLength e = omega arith
+number_some NoEntry e = omega arith
+number_some NoRecord e = omega arith
+number_some ColorList e = omega arith
+number_some FullCounter e = omega arith
+
+module _ (cs : List ℕ) (w h : ℕ) (ds : List ℕ) (k x : ℕ) (s : Step) (a : Bool) (result : Result Step Refusal) where
   -- what the turn learns
   pub record Turn : Type 0 where
     pub before : records_refusal cs w h ds k ≡ 0
     pub width : x ≡ width_at cs w k
     pub fields : s ≡ record_at cs k x
     pub again : a ≡ used_before cs k
-    pub found : c ≡ checked a h ds s
-    pub answer : r ≡ number c
+    pub found : result ≡ checked a h ds s
 
-  pub turn : records_refusal cs w h ds k ≡ 0 → x ≡ width_at cs w k → s ≡ record_at cs k x → a ≡ used_before cs k → c ≡ checked a h ds s → r ≡ number c → Turn
-  turn b x f u d m = record { before = b; width = x; fields = f; again = u; found = d; answer = m }
+  pub turn : records_refusal cs w h ds k ≡ 0 → x ≡ width_at cs w k → s ≡ record_at cs k x → a ≡ used_before cs k → result ≡ checked a h ds s → Turn
+  turn b x f u d = record { before = b; width = x; fields = f; again = u; found = d }
 
-  record_number : Turn → records_refusal cs w h ds (suc k) ≡ r
+  record_number : Turn → records_refusal cs w h ds (suc k) ≡ returned result
   record_number t =
-      let e : checked (used_before cs k) h ds (step_at cs w k) ≡ c = rw (← t.width, ← t.fields, ← t.again) (sym t.found) in
-      records_next cs w h ds k t.before ∙ ap number e ∙ sym t.answer
+      let e : checked (used_before cs k) h ds (step_at cs w k) ≡ result = rw (← t.width, ← t.fields, ← t.again) (sym t.found) in
+      records_next cs w h ds k t.before ∙ ap returned e
 
-  pub record_passed : Turn → r ≡ 0 → records_refusal cs w h ds (k + 1) ≡ 0
-  record_passed t e = let j : k + 1 ≡ suc k = omega arith in rw j (record_number t ∙ e)
+  pub record_passed : Turn → {v : Step} → result ≡ Ok v → records_refusal cs w h ds (k + 1) ≡ 0
+  record_passed t e = let j : k + 1 ≡ suc k = omega arith in rw j (record_number t ∙ ap returned e)
 
-  pub record_refused : Turn → (r ≡ 0 → ⊥) → k < count cs → r ≡ records_refusal cs w h ds (count cs)
-  record_refused t d l = let e = record_number t in e' e (λ z. d (sym e ∙ z))
-    where
-      e' : records_refusal cs w h ds (suc k) ≡ r → (records_refusal cs w h ds (suc k) ≡ 0 → ⊥) → r ≡ records_refusal cs w h ds (count cs)
-      e' e z = sym e ∙ sym (refusal_lasts cs w h ds (suc k) (count cs) l z)
+  pub record_refused : Turn → {r : Refusal} → result ≡ Err r → k < count cs → number r ≡ records_refusal cs w h ds (count cs)
+  record_refused t {r} e l =
+      let n : records_refusal cs w h ds (suc k) ≡ number r = record_number t ∙ ap returned e in
+      sym (refusal_lasts cs w h ds (suc k) (count cs) l (λ z. number_some r (sym n ∙ z)) ∙ n)
 
 -- no record is read yet
 pub steps_none : (w : ℕ) (cs : List ℕ) (steps : List Step) → StepsTo 0 w cs steps
@@ -70,10 +92,13 @@ width_fits w k x cs s e q l =
     omega arith
 
 -- after the last
-pub all_read : (w h : ℕ) (cs ds : List ℕ) (k : ℕ) (c : Chain) → records_refusal cs w h ds k ≡ 0 → StepsTo k w cs c.steps → c.strip.0 ≡ width_at cs w k
-    → k ≡ count cs → c.count ≡ count cs → c.width.0 ≡ w → c.height ≡ h
-    → c.refusal ≡ 0 → input_refusal w h cs ds ≡ records_refusal cs w h ds (count cs) → Read w h cs ds c
-all_read w h cs ds k c r s x q n i j z e =
-    let none : input_refusal w h cs ds ≡ 0 = e ∙ rw q at r in
-    let of : ChainOf w h cs c = record { count = n; steps = record { at = λ a l. s.at a (omega arith) }; width = i; height = j; strip = rw q at x } in
-    record { refusal = z ∙ sym none; of = λ y. of; valid = λ y. valid_of w h cs ds c none of }
+module _ (w h : ℕ) (cs ds : List ℕ) (k : ℕ) where
+  pub all_passed : records_refusal cs w h ds k ≡ 0 → k ≡ count cs → input_refusal w h cs ds ≡ records_refusal cs w h ds (count cs) → input_refusal w h cs ds ≡ 0
+  all_passed r q e = e ∙ rw q at r
+
+  pub all_read : (c : Chain) → records_refusal cs w h ds k ≡ 0 → StepsTo k w cs c.steps → c.strip.0 ≡ width_at cs w k
+      → k ≡ count cs → c.count ≡ count cs → c.width.0 ≡ w → c.height ≡ h
+      → input_refusal w h cs ds ≡ records_refusal cs w h ds (count cs) → Read w h cs ds c
+  all_read c r s x q n i j e =
+      let of : ChainOf w h cs c = record { count = n; steps = record { at = λ a l. s.at a (omega arith) }; width = i; height = j; strip = rw q at x } in
+      record { of = of; valid = valid_of w h cs ds c (all_passed r q e) of }

@@ -2,8 +2,6 @@
 use Rattle.std.specs.Prelude.{List, ◌≡◌, ℕ, ◌<◌, get_or}
 use Rattle.format.specs.declared.Step.{Step}
 use Rattle.format.specs.Chain.{step_at, width_at, count as record_count}
-use Rattle.format.specs.Refusals.{input_refusal}
-use Rattle.format.specs.Calls.{pair_refusal}
 use Rattle.chain.specs.declared.Chain.{Chain}
 use Rattle.chain.specs.Valid.{no_step, HoldsPicture, HoldsStrip, Valid}
 
@@ -19,16 +17,14 @@ pub record ChainOf (w h : ℕ) (cs : List ℕ) (c : Chain) : Type 0 where
   pub height : c.height ≡ h
   pub strip : c.strip.0 ≡ width_at cs w (record_count cs)
 
--- refusals 1 to 7 and, where there is none, the chain
+-- c is the chain, and valid: what reading gives where there is none of refusals 1 to 7
 pub record Read (w h : ℕ) (cs ds : List ℕ) (c : Chain) : Type 0 where
-  pub refusal : c.refusal ≡ input_refusal w h cs ds
-  pub of : c.refusal ≡ 0 → ChainOf w h cs c
-  pub valid : c.refusal ≡ 0 → Valid c ds
+  pub of : ChainOf w h cs c
+  pub valid : Valid c ds
 
--- refusals 1 to 8 and, where there is none, the chain, with room in both buffers
+-- the same with room in both buffers: where there is none of refusals 1 to 8
 pub record Opened (w h : ℕ) (cs ds picture strip : List ℕ) (c : Chain) : Type 0 where
-  pub refusal : c.refusal ≡ pair_refusal w h cs ds picture strip
-  pub of : c.refusal ≡ 0 → ChainOf w h cs c
-  pub valid : c.refusal ≡ 0 → Valid c ds
-  pub held : c.refusal ≡ 0 → HoldsPicture c picture
-  pub room : c.refusal ≡ 0 → HoldsStrip c strip
+  pub of : ChainOf w h cs c
+  pub valid : Valid c ds
+  pub held : HoldsPicture c picture
+  pub room : HoldsStrip c strip

@@ -1,3 +1,4 @@
 mod Delta
+mod Pixels
 pub mod Pointwise
 mod Blocks

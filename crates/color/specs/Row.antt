@@ -22,12 +22,13 @@ in_row t bits d x v = t (d (x / 2 ^ bits)) v
 abbrev pub in_picture : (Pixel → Pixel → Pixel) → ℕ → ℕ → Picture → ℕ → Pixel → Pixel
 in_picture t w bits d q v = t (block w bits d (q % w) (q / w)) v
 
--- a row's pixels from a up to b by t, and the whole row by the data of its blocks
+-- pixels from a up to b by t
 abbrev pub made_by : (Pixel → Pixel) → ℕ → ℕ → List ℕ → List ℕ
-made_by t a b row = run pixel_cells (pointwise (everywhere t)) a (b - a) row
+made_by t a b xs = run pixel_cells (pointwise (everywhere t)) a (b - a) xs
 
+-- a row's first n columns by the data of its blocks
 abbrev pub row_made : (Pixel → Pixel → Pixel) → ℕ → ℕ → List ℕ → List ℕ → List ℕ
-row_made t w bits blocks row = run pixel_cells (pointwise (in_row t bits (pixels blocks))) 0 w row
+row_made t n bits blocks xs = run pixel_cells (pointwise (in_row t bits (pixels blocks))) 0 n xs
 
 -- row y of a picture's buffer rebuilt
 abbrev pub color_row : ℕ → ℕ → List ℕ → ℕ → List ℕ → List ℕ

@@ -1,60 +1,62 @@
-// The color transform. Signed bytes are taken modulo 2^13 instead, since a loop over unsigned numbers is vectorized.
-ghost use Rattle.std.specs.Prelude.{◌≡◌, ◌*◌, ◌<◌, ◌≤◌, length};
+// The color transform.
+ghost use Rattle.std.specs.Prelude.{◌≡◌, ◌+◌, ◌*◌, ◌/◌, ◌^◌, ◌<◌, ◌≤◌, length};
+ghost use Rattle.format.specs.declared.Pixel.{Pixel};
 ghost use Rattle.format.specs.Color.{inverse_color, transform_color};
+ghost use Rattle.format.specs.Picture.{pixels, ceiling};
 ghost use Rattle.format.specs.Sizes.{Sized, Holds, Blocked};
 ghost use Rattle.pixel.specs.Blocks.{BlockedRow};
-ghost use Rattle.color.specs.Factor.{Factor, DeltaBy, PixelBy};
+ghost use Rattle.pixel.specs.Held.{HoldsRow};
+ghost use Rattle.color.specs.Factors.{PixelBy};
 ghost use Rattle.color.specs.Row.{made_by, row_made, color_row, ColorRowStored};
 
+use crate::factor::Factors;
 use format::Pixel;
 use pixel::block::{block_end, subsample_size};
 use pixel::pixel::pixel_at;
-use pixel::word::{read_pixel, wide, write_pixel};
-use std::num::{wrapping_add_u8, wrapping_sub_u8};
+use pixel::replace::replace;
+use pixel::word::Word;
 
-// The signed byte t modulo 2^13.
-fn factor(t: u8) -> u32
-    ensures { Factor t result }
-{
-    wide(t % 128) + wide(t / 128) * 8064
+// Rebuilding or storing.
+trait Direction {
+    ghost rule: { Pixel → Pixel → Pixel };
+
+    fn make(factors: Factors, v: Pixel) -> Pixel
+        ensures { PixelBy rule factors v result };
 }
 
-// With u - 128 for the signed byte c, the product is m * u - 128 * m. 2^20 keeps it from falling below 0 and is lost
-// modulo 256, as 2^13 / 32 is 256.
-fn color_transform_delta(m: u32, c: u8) -> u8
-    requires { m < 8192 }
-    ensures { DeltaBy m c result }
-{
-    let u = (wide(c) + 128) % 256;
-    ((m * u + (1048576 - 128 * m)) / 32 % 256) as u8
-}
+struct Rebuild;
 
-// The factors are those of the block's data pixel.
-fn rebuild_pixel(v: Pixel, green_to_red: u32, green_to_blue: u32, red_to_blue: u32) -> Pixel
-    requires { (green_to_red < 8192) × (green_to_blue < 8192) × (red_to_blue < 8192) }
-    ensures { PixelBy inverse_color green_to_red green_to_blue red_to_blue v result }
-{
-    let red = wrapping_add_u8(v.red, color_transform_delta(green_to_red, v.green));
-    let blue = wrapping_add_u8(v.blue, color_transform_delta(green_to_blue, v.green));
-    Pixel {
-        red,
-        green: v.green,
-        blue: wrapping_add_u8(blue, color_transform_delta(red_to_blue, red)),
-        alpha: v.alpha,
+impl Direction for Rebuild {
+    ghost rule = { inverse_color };
+
+    #[inline(always)]
+    fn make(factors: Factors, v: Pixel) -> Pixel {
+        let red = v.red.wrapping_add(factors.green_to_red.delta(v.green));
+        let blue = v.blue.wrapping_add(factors.green_to_blue.delta(v.green));
+        Pixel {
+            red,
+            green: v.green,
+            blue: blue.wrapping_add(factors.red_to_blue.delta(red)),
+            alpha: v.alpha,
+        }
     }
 }
 
-fn store_pixel(v: Pixel, green_to_red: u32, green_to_blue: u32, red_to_blue: u32) -> Pixel
-    requires { (green_to_red < 8192) × (green_to_blue < 8192) × (red_to_blue < 8192) }
-    ensures { PixelBy transform_color green_to_red green_to_blue red_to_blue v result }
-{
-    let red = wrapping_sub_u8(v.red, color_transform_delta(green_to_red, v.green));
-    let blue = wrapping_sub_u8(v.blue, color_transform_delta(green_to_blue, v.green));
-    Pixel {
-        red,
-        green: v.green,
-        blue: wrapping_sub_u8(blue, color_transform_delta(red_to_blue, v.red)),
-        alpha: v.alpha,
+struct Store;
+
+impl Direction for Store {
+    ghost rule = { transform_color };
+
+    #[inline(always)]
+    fn make(factors: Factors, v: Pixel) -> Pixel {
+        let red = v.red.wrapping_sub(factors.green_to_red.delta(v.green));
+        let blue = v.blue.wrapping_sub(factors.green_to_blue.delta(v.green));
+        Pixel {
+            red,
+            green: v.green,
+            blue: blue.wrapping_sub(factors.red_to_blue.delta(v.red)),
+            alpha: v.alpha,
+        }
     }
 }
 
@@ -62,65 +64,45 @@ fn store_pixel(v: Pixel, green_to_red: u32, green_to_blue: u32, red_to_blue: u32
 pub fn transform_pixel(e: Pixel, v: Pixel) -> Pixel
     ensures { result ≡ transform_color e v }
 {
-    store_pixel(v, factor(e.blue), factor(e.green), factor(e.red))
+    Store::make(Factors::from(e), v)
 }
 
-// Columns of one block, whose data pixel is e.
-fn rebuild_segment(row: &mut [u8], from: usize, to: usize, e: Pixel)
+// Pixels of one block, whose data pixel is e.
+fn make_segment<D: Direction>(row: &mut [u8], from: usize, to: usize, e: Pixel)
     requires { (from ≤ to) × (4 * to ≤ length row.old) }
-    ensures { row.new ≡ made_by (inverse_color e) from to row.old }
+    ensures { row.new ≡ made_by (D.rule e) from to row.old }
 {
-    let green_to_red = factor(e.blue);
-    let green_to_blue = factor(e.green);
-    let red_to_blue = factor(e.red);
-    let mut i = from;
-    while i < to {
-        let v = rebuild_pixel(read_pixel(row, i), green_to_red, green_to_blue, red_to_blue);
-        write_pixel(row, i, v);
-        i += 1;
-    }
-}
-
-fn store_segment(row: &mut [u8], from: usize, to: usize, e: Pixel)
-    requires { (from ≤ to) × (4 * to ≤ length row.old) }
-    ensures { row.new ≡ made_by (transform_color e) from to row.old }
-{
-    let green_to_red = factor(e.blue);
-    let green_to_blue = factor(e.green);
-    let red_to_blue = factor(e.red);
-    let mut i = from;
-    while i < to {
-        let v = store_pixel(read_pixel(row, i), green_to_red, green_to_blue, red_to_blue);
-        write_pixel(row, i, v);
-        i += 1;
-    }
+    let factors = Factors::from(e);
+    replace(row, from, to, |row: &[u8], i: usize| {
+        Word::from(D::make(factors, Pixel::from(Word::at(row, i))))
+    });
 }
 
 // A row, with the data of its row of blocks.
-fn rebuild_row(row: &mut [u8], width: usize, bits: u32, blocks: &[u8])
+fn make_row<D: Direction>(row: &mut [u8], width: usize, bits: u32, blocks: &[u8])
     requires blocked_row { BlockedRow width bits blocks.now }
-    requires width_in_bounds { 4 * width ≤ length row.old }
-    ensures { row.new ≡ row_made inverse_color width bits blocks.now row.old }
+    requires inside { 4 * width ≤ length row.old }
+    ensures { row.new ≡ row_made D.rule width bits blocks.now row.old }
 {
     let mut x = 0;
+    // No loop over an index: a step is a block, and the last block may have fewer columns.
     while x < width {
         let end = block_end(x, bits, width);
-        rebuild_segment(row, x, end, pixel_at(blocks, x >> bits));
+        make_segment::<D>(row, x, end, pixel_at(blocks, x >> bits));
         x = end;
     }
 }
 
-fn store_segments(row: &mut [u8], width: usize, bits: u32, blocks: &[u8])
-    requires blocked_row { BlockedRow width bits blocks.now }
-    requires width_in_bounds { 4 * width ≤ length row.old }
-    ensures { row.new ≡ row_made transform_color width bits blocks.now row.old }
+// The data of the row of blocks that row y is in.
+fn blocks_of_row(blocks: &[u8], width: usize, height: usize, bits: u32, y: usize) -> &[u8]
+    requires sized { Sized width height × Blocked width height bits blocks.now × (y < height) }
+    ensures blocked_row { BlockedRow width bits result.now }
+    ensures holds { HoldsRow (pixels blocks.now) (y / 2 ^ bits) (ceiling width (2 ^ bits)) result.now }
 {
-    let mut x = 0;
-    while x < width {
-        let end = block_end(x, bits, width);
-        store_segment(row, x, end, pixel_at(blocks, x >> bits));
-        x = end;
-    }
+    let bx = subsample_size(width, bits);
+    let from = 4 * ((y >> bits) * bx);
+    let to = from + 4 * bx;
+    &blocks[from..to]
 }
 
 // Row y of the picture, in its place there.
@@ -136,12 +118,10 @@ pub fn rebuild_row_at(
     requires holds { Holds width height image.old }
     ensures { image.new ≡ color_row width bits blocks.now y image.old }
 {
+    let blocks = blocks_of_row(blocks, width, height, bits, y);
     let a = 4 * (y * width);
     let b = a + 4 * width;
-    let bx = subsample_size(width, bits);
-    let c = 4 * ((y >> bits) * bx);
-    let d = c + 4 * bx;
-    rebuild_row(&mut image[a..b], width, bits, &blocks[c..d]);
+    make_row::<Rebuild>(&mut image[a..b], width, bits, blocks);
 }
 
 // Row y of the picture, in a buffer of its own.
@@ -150,8 +130,10 @@ pub fn store_row(row: &mut [u8], width: usize, height: usize, bits: u32, blocks:
     requires width_in_bounds { 4 * width ≤ length row.old }
     ensures { ColorRowStored width bits blocks.now y row.old row.new }
 {
-    let bx = subsample_size(width, bits);
-    let c = 4 * ((y >> bits) * bx);
-    let d = c + 4 * bx;
-    store_segments(row, width, bits, &blocks[c..d]);
+    make_row::<Store>(
+        row,
+        width,
+        bits,
+        blocks_of_row(blocks, width, height, bits, y),
+    );
 }

@@ -2,4 +2,5 @@
 #![tactic(auto)]
 
 pub mod color;
+mod factor;
 pub mod subtract_green;

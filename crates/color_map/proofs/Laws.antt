@@ -5,7 +5,7 @@ use Rattle.format.specs.Byte.{add, sub}
 use Rattle.format.specs.Picture.{byte_at, written_bytes}
 use Rattle.format.specs.ColorMap.{adjusted, unadjusted}
 use Rattle.format.proofs.ColorMap.{adjusted_at, adjusted_start, unadjusted_start, unadjusted_at}
-use Rattle.pixel.specs.Cells.{byte_cells, Rule, run}
+use Rattle.pixel.specs.Cells.{byte_cells, Rule, run, given}
 use Rattle.pixel.proofs.Cells.{byte_lawful, length_run, run_before, run_after, run_at, run_kept, run_prepend}
 use Rattle.pixel.proofs.Front.{bytes_are}
 
@@ -39,33 +39,34 @@ module _ (xs : List ℕ) where
       let ih = each_byte i (omega arith) in
       next j l (omega arith) ∙ rw (e, ih) (sym (adjusted_at (byte_at xs) j (omega arith) ∙ ap (λ (k : ℕ). add (byte_at xs j) (adjusted (byte_at xs) k)) e))
 
-  pub adjusted_run : (zs : List ℕ) (i : ℕ) → zs ≡ run byte_cells gains 4 (i - 4) xs → i ≡ length xs → zs ≡ written_bytes (length xs) (adjusted (byte_at xs)) xs
-  adjusted_run zs i e q =
-      e ∙ ap (λ (j : ℕ). run byte_cells gains 4 (j - 4) xs) q
-      ∙ bytes_are xs ys (adjusted (byte_at xs)) (length_run byte_cells byte_lawful gains 4 xs (length xs - 4)) each_byte
+  pub adjusted_run : (zs : List ℕ) → zs ≡ ys → zs ≡ written_bytes (length xs) (adjusted (byte_at xs)) xs
+  adjusted_run zs e = e ∙ bytes_are xs ys (adjusted (byte_at xs)) (length_run byte_cells byte_lawful gains 4 xs (length xs - 4)) each_byte
+
+  abbrev pub losses : Rule ℕ
+  losses = given (unadjusted (byte_at xs))
+
+  back : (i n : ℕ) → set (run byte_cells losses (suc i) n xs) i (unadjusted (byte_at xs) i) ≡ run byte_cells losses i (suc n) xs
+  unfolding given
+  back i n = run_prepend byte_cells byte_lawful (unadjusted (byte_at xs)) i xs n
 
   -- one byte more, back to front: what it is made of stands as at first
-  pub unadjusted_more : (zs : List ℕ) (i v : ℕ) → zs ≡ run byte_cells (λ p j. unadjusted (byte_at xs) j) i (length xs - i) xs → v ≡ sub (byte_at zs (i - 1)) (byte_at zs (i - 1 - 4))
-      → 4 < i → i ≤ length xs → set zs (i - 1) v ≡ run byte_cells (λ p j. unadjusted (byte_at xs) j) (i - 1) (length xs - (i - 1)) xs
+  pub unadjusted_more : (zs : List ℕ) (i v : ℕ) → zs ≡ run byte_cells losses (suc i) (length xs - suc i) xs → v ≡ sub (byte_at zs i) (byte_at zs (i - 4)) → 4 ≤ i → i < length xs
+      → set zs i v ≡ run byte_cells losses i (length xs - i) xs
   unadjusted_more zs i v e q l u =
-      let k : Rule ℕ = λ p j. unadjusted (byte_at xs) j in
-      let m : suc (i - 1) ≡ i = omega arith in
-      let n : suc (length xs - i) ≡ length xs - (i - 1) = omega arith in
-      let a : byte_at zs (i - 1) ≡ byte_at xs (i - 1) = ap (λ (ys : List ℕ). byte_at ys (i - 1)) e ∙ run_before byte_cells byte_lawful k i xs (length xs - i) (i - 1) (omega arith) in
-      let b : byte_at zs (i - 1 - 4) ≡ byte_at xs (i - 1 - 4) =
-      ap (λ (ys : List ℕ). byte_at ys (i - 1 - 4)) e ∙ run_before byte_cells byte_lawful k i xs (length xs - i) (i - 1 - 4) (omega arith) in
-      let w : v ≡ unadjusted (byte_at xs) (i - 1) = q ∙ cc (a, b) ∙ sym (unadjusted_at (byte_at xs) (i - 1) (omega arith)) in
-      let s : zs ≡ run byte_cells k (suc (i - 1)) (length xs - i) xs = e ∙ ap (λ (j : ℕ). run byte_cells k j (length xs - i) xs) (sym m) in
-      cc (s, w) ∙ run_prepend byte_cells byte_lawful (unadjusted (byte_at xs)) (i - 1) xs (length xs - i) ∙ ap (λ (j : ℕ). run byte_cells k (i - 1) j xs) n
+      let kept : (j : ℕ) → j ≤ i → byte_at zs j ≡ byte_at xs j = λ j m.
+      ap (λ (ys : List ℕ). byte_at ys j) e ∙ run_before byte_cells byte_lawful losses (suc i) xs (length xs - suc i) j (omega arith) in
+      let n : length xs - i ≡ suc (length xs - suc i) = omega arith in
+      let w : v ≡ unadjusted (byte_at xs) i = q ∙ cc (kept i (omega arith), kept (i - 4) (omega arith)) ∙ sym (unadjusted_at (byte_at xs) i l) in
+      rw (n, w, e) (back i (length xs - suc i))
 
-  -- back to front down to index 4
-  pub unadjusted_run : (zs : List ℕ) → zs ≡ run byte_cells (λ p j. unadjusted (byte_at xs) j) 4 (length xs - 4) xs → zs ≡ written_bytes (length xs) (unadjusted (byte_at xs)) xs
+  -- down to index 4
+  loss : (i : ℕ) → i < length xs → Dec (i < 4) → byte_at (run byte_cells losses 4 (length xs - 4) xs) i ≡ unadjusted (byte_at xs) i
+  unfolding given
+  loss i l (yes s) = run_before byte_cells byte_lawful losses 4 xs (length xs - 4) i s ∙ sym (unadjusted_start (byte_at xs) i s)
+  loss i l (no n) = run_at byte_cells byte_lawful losses 4 xs (length xs - 4) i (omega arith) (omega arith) (omega arith)
+
+  pub unadjusted_run : (zs : List ℕ) → zs ≡ run byte_cells losses 4 (length xs - 4) xs → zs ≡ written_bytes (length xs) (unadjusted (byte_at xs)) xs
   unadjusted_run zs e =
       e
-      ∙ bytes_are xs (run byte_cells (λ p j. unadjusted (byte_at xs) j) 4 (length xs - 4) xs) (unadjusted (byte_at xs))
-      (length_run byte_cells byte_lawful (λ p j. unadjusted (byte_at xs) j) 4 xs (length xs - 4))
-      (λ i l. go i l (dec_lt i 4))
-    where
-      go : (i : ℕ) → i < length xs → Dec (i < 4) → byte_at (run byte_cells (λ p j. unadjusted (byte_at xs) j) 4 (length xs - 4) xs) i ≡ unadjusted (byte_at xs) i
-      go i l (yes s) = run_before byte_cells byte_lawful (λ p j. unadjusted (byte_at xs) j) 4 xs (length xs - 4) i s ∙ sym (unadjusted_start (byte_at xs) i s)
-      go i l (no n) = run_at byte_cells byte_lawful (λ p j. unadjusted (byte_at xs) j) 4 xs (length xs - 4) i (omega arith) (omega arith) (omega arith)
+      ∙ bytes_are xs (run byte_cells losses 4 (length xs - 4) xs) (unadjusted (byte_at xs)) (length_run byte_cells byte_lawful losses 4 xs (length xs - 4))
+      (λ i l. loss i l (dec_lt i 4))

@@ -1,6 +1,6 @@
 -- Rows of a table replaced one by one, and the columns of every byte.
 use mathlib.Core.List.{List, [], ◌∷◌}
-use mathlib.Core.Path.{◌≡◌, refl, ap, ◌∙◌}
+use mathlib.Core.Path.{◌≡◌, refl, sym, ap, ◌∙◌}
 use Prim.Native.Nat.{ℕ, ◌+◌, ◌*◌, ◌/◌, ◌%◌, ◌^◌, ◌<◌, ◌≤◌}
 use native.Mathlib.Nat.{mod-lt}
 use native.Mathlib.Decide.{ℕ_discrete, dec_lt}
@@ -10,8 +10,8 @@ use lib.Arith.{digits_div, digits_mod}
 use lib.ListN.{length, get_or, set, replicate, get_or-replicate, get_or-eq_default}
 use lib.Seq.{get_or-set_same, get_or-set_other}
 use Rattle.format.specs.declared.Pixel.{Pixel}
-use Rattle.format.specs.Pixel.{pixel, clear}
-use Rattle.format.specs.Picture.{Picture, byte_at, pixels}
+use Rattle.format.specs.Pixel.{clear}
+use Rattle.format.specs.Picture.{Picture, pixels}
 use Rattle.format.specs.ColorTable.{range, index_in, entry}
 use Rattle.pixel.specs.Cells.{pixel_cells, run, given}
 use Rattle.pixel.specs.Stride.{Places}
@@ -23,43 +23,33 @@ use Rattle.color_table.specs.Table.{entry_in, TableOf, ColumnsOf}
 -- no entries
 
 pub no_entry : (i : ℕ) → entry_in (replicate 256 (0 ∷ 0 ∷ 0 ∷ 0 ∷ [])) i ≡ clear
-unfolding entry_in
+unfolding entry_in pixels
 no_entry i = go (dec_lt i 256)
   where
     t : List (List ℕ)
     t = replicate 256 (0 ∷ 0 ∷ 0 ∷ 0 ∷ [])
 
-    row : (r : List ℕ) → get_or t i [] ≡ r → (byte_at r 0 ≡ 0) × (byte_at r 1 ≡ 0) × (byte_at r 2 ≡ 0) × (byte_at r 3 ≡ 0)
-        → pixel (byte_at (get_or t i []) 0) (byte_at (get_or t i []) 1) (byte_at (get_or t i []) 2) (byte_at (get_or t i []) 3) ≡ clear
-    row r e z = let a = z.0 in let b = z.1 in let c = z.2 in let d = z.3 in cc
-
-    go : Dec (i < 256) → pixel (byte_at (get_or t i []) 0) (byte_at (get_or t i []) 1) (byte_at (get_or t i []) 2) (byte_at (get_or t i []) 3) ≡ clear
-    go (yes l) = row (0 ∷ 0 ∷ 0 ∷ 0 ∷ []) (get_or-replicate 256 i (0 ∷ 0 ∷ 0 ∷ 0 ∷ []) [] l) (refl, refl, refl, refl)
-    go (no n) = row [] (get_or-eq_default t [] {n = i} (omega arith)) (refl, refl, refl, refl)
+    go : Dec (i < 256) → pixels (get_or t i []) 0 ≡ clear
+    go (yes l) = rw (get_or-replicate {A = List ℕ} 256 i (0 ∷ 0 ∷ 0 ∷ 0 ∷ []) [] l) refl
+    go (no n) = rw (get_or-eq_default t [] {n = i} (omega arith)) refl
 
 -- one row replaced
 
-abbrev pub entry_bytes : Pixel → List ℕ
-entry_bytes v = v.red ∷ v.green ∷ v.blue ∷ v.alpha ∷ []
-
-module _ (t : List (List ℕ)) (i : ℕ) where
-  entry_set : (v : Pixel) → i < length t → entry_in (set t i (entry_bytes v)) i ≡ v
+module _ (t : List (List ℕ)) (i : ℕ) (r : List ℕ) where
+  entry_other : (j : ℕ) → (j ≡ i → ⊥) → entry_in (set t i r) j ≡ entry_in t j
   unfolding entry_in
-  entry_set v l = let r = get_or-set_same t i (entry_bytes v) [] l in cc
+  entry_other j n = ap (λ (s : List ℕ). pixels s 0) (get_or-set_other t i j r [] n)
 
-  entry_other : (r : List ℕ) (j : ℕ) → (j ≡ i → ⊥) → entry_in (set t i r) j ≡ entry_in t j
+  pub entries_more : (f : Picture) (v : Pixel) → ((j : ℕ) → j < i → entry_in t j ≡ f j) → v ≡ pixels r 0 → v ≡ f i → i < length t → (j : ℕ) → j < i + 1 → entry_in (set t i r) j ≡ f j
   unfolding entry_in
-  entry_other r j n = let e = get_or-set_other t i j r [] n in cc
-
-  pub entries_more : (f : Picture) (v : Pixel) → ((j : ℕ) → j < i → entry_in t j ≡ f j) → v ≡ f i → i < length t → (j : ℕ) → j < i + 1 → entry_in (set t i (entry_bytes v)) j ≡ f j
-  entries_more f v h e l j k = go (ℕ_discrete j i)
+  entries_more f v h p e l j k = go (ℕ_discrete j i)
     where
-      go : Dec (j ≡ i) → entry_in (set t i (entry_bytes v)) j ≡ f j
-      go (yes q) = rw q (entry_set v l ∙ e)
-      go (no n) = entry_other (entry_bytes v) j n ∙ h j (omega arith)
+      go : Dec (j ≡ i) → pixels (get_or (set t i r) j []) 0 ≡ f j
+      go (yes q) = rw (q, get_or-set_same t i r [] l) (sym p ∙ e)
+      go (no n) = entry_other j n ∙ h j (omega arith)
 
-  pub clear_more : (r : List ℕ) → ((j : ℕ) → i ≤ j → entry_in t j ≡ clear) → (j : ℕ) → i + 1 ≤ j → entry_in (set t i r) j ≡ clear
-  clear_more r h j k = entry_other r j (λ e. omega arith) ∙ h j (omega arith)
+  pub clear_more : ((j : ℕ) → i ≤ j → entry_in t j ≡ clear) → (j : ℕ) → i + 1 ≤ j → entry_in (set t i r) j ≡ clear
+  clear_more h j k = entry_other j (λ e. omega arith) ∙ h j (omega arith)
 
 -- all entries are there
 pub padded_whole : (size i : ℕ) (e : Picture) (t : List (List ℕ)) → ((j : ℕ) → j < i → entry_in t j ≡ e j) → ((j : ℕ) → i ≤ j → entry_in t j ≡ clear) → i ≡ size → TableOf (entry size e) t
@@ -70,10 +60,6 @@ padded_whole size i e t h z q = record { at = λ j l. go j (dec_lt j size) }
     go j (no k) = let g : size ≤ j = omega arith in rw (le-ltb j size g) (z j (omega arith))
 
 -- the columns of every byte
-
--- the shift of index k, and the range of an index
-pub shift_small : (n k : ℕ) → Places n → k < n → 8 / n * k ≤ 8
-shift_small n k h = by_places (λ m. k < m → 8 / m * k ≤ 8) (λ l. omega arith) (λ l. omega arith) (λ l. omega arith) (λ l. omega arith) n h
 
 pub range_small : (n : ℕ) → Places n → (1 ≤ range n) × (range n ≤ 256)
 range_small n h = by_places (λ m. (1 ≤ range m) × (range m ≤ 256)) (omega arith, omega arith) (omega arith, omega arith) (omega arith, omega arith) (omega arith, omega arith) n h

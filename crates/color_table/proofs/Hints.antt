@@ -1,4 +1,6 @@
 -- Laws of hints: how they are made, from the last entry to the first, and that following them finds the lowest index.
+use Rattle.std.specs.Prelude.{Some, None}
+use borrow.Author.Tests.{le-ltb}
 use mathlib.Core.Bool.{Bool, true, false}
 use mathlib.Core.List.{List}
 use mathlib.Core.Path.{◌≡◌, sym, ap, ◌∙◌}
@@ -13,6 +15,8 @@ use Rattle.format.specs.Picture.{Picture, byte_at}
 use Rattle.format.specs.ColorTable.{index_of}
 use Rattle.format.proofs.Pixels.{equal_true, equal_refl}
 use Rattle.format.proofs.ColorTable.{index_is, index_none}
+use Rattle.color_table.specs.Found.{found}
+use Rattle.color_table.proofs.Index.{found_at, found_none}
 use Rattle.color_table.specs.Hints.{slot_of, in_slot, link, Toward, Linked, Hints}
 
 pub slot_below : (v : Pixel) → slot_of v < 4096
@@ -152,8 +156,9 @@ module _ (size : ℕ) (e : Picture) (hints : List ℕ) (h : Hints size e hints) 
   pub leads_link : (i : ℕ) → Leads size e v i → equal (e i) v ≡ false → Leads size e v (link hints i)
   leads_link i f n j l q = let t = past i j f n l q in record { from = omega arith; before = t.before; same = t.same }
 
-  pub leads_found : (i : ℕ) → Leads size e v i → i < size → equal (e i) v ≡ true → i ≡ index_of size e v
-  leads_found i f l q = index_is size e v i l (equal_true (e i) v q) (λ j m p. (f j m p).before)
+  pub leads_found : (i : ℕ) → Leads size e v i → i < size → equal (e i) v ≡ true → Some i ≡ found size e v
+  leads_found i f l q = found_at size e v i (index_is size e v i l (equal_true (e i) v q) (λ j m p. (f j m p).before)) l
 
-  pub leads_none : (i : ℕ) → Leads size e v i → equal (e i) v ≡ false → link hints i ≡ 0 → size ≡ index_of size e v
-  leads_none i f n z = index_none size e v (λ j l q. let t = past i j f n l q in let u = t.from in omega arith)
+  pub leads_none : (i : ℕ) → Leads size e v i → equal (e i) v ≡ false → link hints i ≡ 0 → None ≡ found size e v
+  leads_none i f n z =
+      found_none size e v (le-ltb (index_of size e v) size (omega (arith, index_none size e v (λ j l q. let t = past i j f n l q in let u = t.from in omega arith))))

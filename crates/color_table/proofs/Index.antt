@@ -1,6 +1,8 @@
 -- The lowest index of a pixel, by looking at each entry; pixels that are one of two; acceptance.
-use Rattle.std.specs.Prelude.{if◌then◌else◌}
-use mathlib.Core.Bool.{Bool, true, false, ◌&&◌, ◌||◌}
+use Rattle.std.specs.Prelude.{if◌then◌else◌, Option, Some, None}
+use Rattle.std.specs.Option.{is_some}
+use Rattle.std.proofs.lemmas.Option.{none-some, same_Some}
+use mathlib.Core.Bool.{Bool, true, false, ◌&&◌, ◌||◌, true≢false}
 use mathlib.Core.Path.{◌≡◌, refl, sym, ap, ◌∙◌}
 use Prim.Native.Nat.{ℕ, zero, suc, ◌+◌, ◌-◌, ◌*◌, ◌<◌, ◌≤◌}
 use native.Mathlib.Nat.{zero-add, add-zero}
@@ -11,37 +13,67 @@ use lib.Dec.{ltb}
 use Rattle.format.specs.declared.Pixel.{Pixel}
 use Rattle.format.specs.Pixel.{equal}
 use Rattle.format.specs.Picture.{Picture}
-use Rattle.format.specs.ColorTable.{lowest, index_of, has_entry, have_entries, column_at, index_at}
+use Rattle.format.specs.ColorTable.{index_of, has_entry, have_entries, index_at}
 use Rattle.format.proofs.Choice.{every_at, and_both, and_left, and_right, and_false_right}
 use Rattle.format.proofs.Pixels.{equal_true, equal_refl}
-use Rattle.format.proofs.ColorTable.{column_inside, index_inside, index_last, lowest_hit, lowest_least, index_least}
+use Rattle.format.proofs.ColorTable.{index_inside, index_last, lowest_hit, lowest_least, index_least, index_is, index_none}
 use Rattle.color_table.specs.OneOf.{one_of, EachOf}
-use Rattle.color_table.specs.Pack.{EachHas, row_indices}
+use Rattle.color_table.specs.Found.{found}
 
--- looking at each entry
+-- what a look-up finds
 
-module _ (e : Picture) (v : Pixel) (size : ℕ) where
-  pub scan_none : index_of size e v ≡ lowest e v (size - 0) 0
-  scan_none = let z : size - 0 ≡ size = omega arith in rw z
+module _ (size : ℕ) (e : Picture) (v : Pixel) where
+  pub found_is : has_entry size e v ≡ true → found size e v ≡ Some (index_of size e v)
+  unfolding found
+  found_is h = rw h
 
-  scan_step : (i : ℕ) → i < size → index_of size e v ≡ lowest e v (size - i) i → index_of size e v ≡ (if equal (e i) v then i else lowest e v (size - (i + 1)) (suc i))
-  unfolding lowest
-  scan_step i l h =
-      let k : size - i ≡ suc (size - (i + 1)) = omega arith in
-      h ∙ ap (λ (n : ℕ). lowest e v n i) k
+  pub found_none : has_entry size e v ≡ false → None ≡ found size e v
+  unfolding found
+  found_none h = rw h
 
-  pub scan_more : (i : ℕ) (b : Bool) (u : Pixel) → index_of size e v ≡ lowest e v (size - i) i → u ≡ e i → b ≡ equal u v → b ≡ false → i < size → index_of size e v ≡ lowest e v (size - (i + 1)) (i + 1)
-  scan_more i b u h p q f l =
-      let s : suc i ≡ i + 1 = omega arith in
-      let g : equal (e i) v ≡ false = rw p at (sym q ∙ f) in
-      rw g at (scan_step i l h) ∙ ap (lowest e v (size - (i + 1))) s
+  pub found_has : (r : Option ℕ) → r ≡ found size e v → is_some r ≡ has_entry size e v
+  unfolding found
+  found_has r q = rw q (go (has_entry size e v))
+    where
+      go : (b : Bool) → is_some (if b then Some (index_of size e v) else None) ≡ b
+      go false = refl
+      go true = refl
 
-  pub scan_found : (i : ℕ) (b : Bool) (u : Pixel) → index_of size e v ≡ lowest e v (size - i) i → u ≡ e i → b ≡ equal u v → b ≡ true → i < size → i ≡ index_of size e v
-  scan_found i b u h p q t l = let g : equal (e i) v ≡ true = rw p at (sym q ∙ t) in sym (rw g at (scan_step i l h))
+  -- the lowest index where v is
+  pub found_at : (i : ℕ) → i ≡ index_of size e v → i < size → Some i ≡ found size e v
+  found_at i q l = sym (found_is (lt-ltb (index_of size e v) size (rw q at l)) ∙ ap Some (sym q))
 
-  pub scan_end : (i : ℕ) → index_of size e v ≡ lowest e v (size - i) i → i ≡ size → size ≡ index_of size e v
-  unfolding lowest
-  scan_end i h q = let k : size - i ≡ 0 = omega arith in sym (h ∙ ap (λ (n : ℕ). lowest e v n i) k ∙ q)
+  pub has_found : (i : ℕ) → Some i ≡ found size e v → (i ≡ index_of size e v) × (has_entry size e v ≡ true)
+  unfolding found
+  has_found i h = go (has_entry size e v) refl
+    where
+      go : (b : Bool) → has_entry size e v ≡ b → (i ≡ index_of size e v) × (b ≡ true)
+      go true q = (same_Some i (index_of size e v) (rw q at h), refl)
+      go false q = absurd (none-some _ (sym (rw q at h)))
+
+-- looking at each entry, i of which are not v
+module _ (size : ℕ) (e : Picture) (v : Pixel) (i : ℕ) (others : (j : ℕ) → j < i → equal (e j) v ≡ false) where
+  pub scan_more : equal (e i) v ≡ false → (j : ℕ) → j < i + 1 → equal (e j) v ≡ false
+  scan_more q j l = go (ℕ_discrete j i)
+    where
+      go : Dec (j ≡ i) → equal (e j) v ≡ false
+      go (yes r) = rw r q
+      go (no n) = others j (omega arith)
+
+  -- v is not among them
+  apart : (j : ℕ) → j < i → e j ≡ v → ⊥
+  apart j l q = true≢false (sym (equal_refl v) ∙ ap (λ (u : Pixel). equal u v) (sym q) ∙ others j l)
+
+  pub scan_found : i < size → equal (e i) v ≡ true → Some i ≡ found size e v
+  scan_found l q =
+      found_at size e v i (index_is size e v i l (equal_true (e i) v q) (λ j m p. least j p (dec_lt j i))) l
+    where
+      least : (j : ℕ) → e j ≡ v → Dec (j < i) → i ≤ j
+      least j p (yes m) = absurd (apart j m p)
+      least j p (no m) = omega arith
+
+  pub scan_none : size ≤ i → None ≡ found size e v
+  scan_none l = found_none size e v (le-ltb (index_of size e v) size (omega (arith, index_none size e v (λ j m p. apart j (omega arith) p))))
 
 -- comparing with each entry: whether one of the first j is v, and how many come before it
 
@@ -72,17 +104,13 @@ module _ (e : Picture) (v : Pixel) (size : ℕ) (has : index_of size e v < size)
           let t : s ≡ false = q ∙ ap (λ (x : Pixel). equal x v) p ∙ other (equal (e j) v) refl (omega arith) in
           rw (a, t, le-ltb (index_of size e v) (j + 1) b)
 
-pub found_none : (i : ℕ) → false ≡ ltb i 0
-found_none i = sym (le-ltb i 0 (omega arith))
+pub none_before : (i : ℕ) → false ≡ ltb i 0
+none_before i = sym (le-ltb i 0 (omega arith))
 
 -- how many of j entries come before index i
 
 pub before_none : (i : ℕ) → 0 ≡ (if ltb i 0 then i else 0)
 before_none i = rw (le-ltb i 0 (omega arith))
-
-pub unless_small : (t : ℕ) (found : Bool) → t ≡ (if found then 0 else 1) → t ≤ 1
-unless_small t true q = omega arith
-unless_small t false q = omega arith
 
 pub before_more : (i j r t : ℕ) (found : Bool) → r ≡ (if ltb i j then i else j) → found ≡ ltb i (j + 1) → t ≡ (if found then 0 else 1) → (r + t ≡ (if ltb i (j + 1) then i else j + 1)) × (r + t ≤ j + 1)
 before_more i j r t found h q s = go (dec_lt i j) (dec_lt i (j + 1))
@@ -106,6 +134,10 @@ before_all i j r h l = go (dec_lt i j)
     go (no a) = let k : j ≤ i = omega arith in let x = rw (le-ltb i j k) at h in omega arith
 
 -- pixels that have entries
+
+-- the n pixels of f from i on have entries
+abbrev pub EachHas : ℕ → Picture → Picture → ℕ → ℕ → Type 0
+EachHas size e f i n = (k : ℕ) → k < n → has_entry size e (f (i + k)) ≡ true
 
 module _ (size : ℕ) (e : Picture) where
   -- v where it was found, or is u, which has one
@@ -171,21 +203,17 @@ all_more v f a g h d q l u = go (dec_lt q (16 * g))
 -- acceptance
 
 module _ (size : ℕ) (e f : Picture) where
-  pub accepted_more : (i k : ℕ) (u : Pixel) → have_entries size e i f ≡ true → u ≡ f i → k ≡ index_of size e u → k < size → have_entries size e (i + 1) f ≡ true
-  accepted_more i k u h p q l =
+  pub accepted_more : (i : ℕ) (u : Pixel) → have_entries size e i f ≡ true → u ≡ f i → has_entry size e u ≡ true → have_entries size e (i + 1) f ≡ true
+  accepted_more i u h p t =
       let s : suc i ≡ i + 1 = omega arith in
-      let t : has_entry size e (f i) ≡ true = lt-ltb (index_of size e (f i)) size (rw (← p, ← q) l) in
-      ap (λ (n : ℕ). have_entries size e n f) (sym s) ∙ and_both (has_entry size e (f i)) (have_entries size e i f) t h
+      ap (λ (n : ℕ). have_entries size e n f) (sym s) ∙ and_both (has_entry size e (f i)) (have_entries size e i f) (rw p at t) h
 
-  pub accepted_not : (m i k : ℕ) (u : Pixel) → u ≡ f i → k ≡ index_of size e u → size ≤ k → i < m → false ≡ have_entries size e m f
-  accepted_not m i k u p q h l = go (have_entries size e m f) refl
+  pub accepted_not : (m i : ℕ) (u : Pixel) → u ≡ f i → has_entry size e u ≡ false → i < m → false ≡ have_entries size e m f
+  accepted_not m i u p h l = go (have_entries size e m f) refl
     where
-      lacks : has_entry size e (f i) ≡ false
-      lacks = le-ltb (index_of size e (f i)) size (rw (← p, ← q) h)
-
       go : (b : Bool) → have_entries size e m f ≡ b → false ≡ b
       go false r = refl
-      go true r = sym lacks ∙ every_at m (λ j. has_entry size e (f j)) i l r
+      go true r = sym (rw p at h) ∙ every_at m (λ j. has_entry size e (f j)) i l r
 
   -- n pixels more that have entries
   pub accepted_has : (i n : ℕ) → EachHas size e f i n → have_entries size e i f ≡ true → have_entries size e (i + n) f ≡ true
@@ -228,26 +256,12 @@ module _ (size : ℕ) (e f : Picture) where
   pub taken_entry : (m x : ℕ) (u : Pixel) → have_entries size e m f ≡ true → u ≡ f x → x < m → has_entry size e u ≡ true
   taken_entry m x u h p l = rw p (every_at m (λ j. has_entry size e (f j)) x l h)
 
-  -- the index at a position of a row by itself: its column's, below the table's size
-  pub row_own : (w a k : ℕ) → a + k < w → row_indices w size e f a k ≡ index_of size e (f (a + k))
-  unfolding row_indices
-  row_own w a k l =
-      let z : 0 * w + (a + k) ≡ a + k = omega arith in
-      index_inside w size e f 0 (a + k) l ∙ ap (λ (x : ℕ). index_of size e (f x)) z
+  -- the index at a column, and past the row's last one
+  pub at_column : (w x r : ℕ) (u : Pixel) → r ≡ index_of size e u → u ≡ f x → x < w → r ≡ index_at w size e f 0 x
+  at_column w x r u q p l =
+      let z : 0 * w + x ≡ x = omega arith in
+      q ∙ ap (index_of size e) p ∙ sym (index_inside w size e f 0 x l ∙ ap (λ (y : ℕ). index_of size e (f y)) z)
 
-  pub row_below : (w a k : ℕ) → have_entries size e w f ≡ true → 1 ≤ w → row_indices w size e f a k < size
-  unfolding row_indices
-  row_below w a k h pos = accepted_below w (0 * w + column_at w (a + k)) h (omega (arith, column_inside w (a + k) pos))
-
-  pub row_inside : (w a k r : ℕ) (u : Pixel) → have_entries size e w f ≡ true → u ≡ f (a + k) → r ≡ index_of size e u → a + k < w → (r ≡ row_indices w size e f a k) × (r < size)
-  row_inside w a k r u h p q l =
-      (q ∙ ap (index_of size e) p ∙ sym (row_own w a k l), taken_below w (a + k) r u h p q l)
-
-  -- past the row's end it is the one before
-  pub row_again : (w a k r : ℕ) → r ≡ row_indices w size e f a k → w ≤ a + (k + 1) → 1 ≤ w → r ≡ row_indices w size e f a (k + 1)
-  unfolding row_indices
-  row_again w a k r q l pos = q ∙ last (dec_lt (a + k) w) ∙ sym (index_last w size e f 0 (a + (k + 1)) l)
-    where
-      last : Dec (a + k < w) → index_at w size e f 0 (a + k) ≡ index_of size e (f (0 * w + (w - 1)))
-      last (yes m) = let z : a + k ≡ w - 1 = omega arith in index_inside w size e f 0 (a + k) m ∙ ap (λ (x : ℕ). index_of size e (f (0 * w + x))) z
-      last (no m) = index_last w size e f 0 (a + k) (omega arith)
+  pub at_last : (w x r : ℕ) → r ≡ index_at w size e f 0 (w - 1) → w ≤ x → 1 ≤ w → r ≡ index_at w size e f 0 x
+  at_last w x r q l pos =
+      q ∙ index_inside w size e f 0 (w - 1) (omega arith) ∙ sym (index_last w size e f 0 x l)

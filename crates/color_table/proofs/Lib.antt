@@ -3,5 +3,4 @@ pub mod Rows
 pub mod Index
 pub mod Hints
 pub mod Digits
-pub mod Words
 pub mod Records

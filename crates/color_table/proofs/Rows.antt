@@ -2,7 +2,7 @@
 use mathlib.Core.List.{List}
 use mathlib.Core.Path.{◌≡◌, refl, sym, ap, ◌∙◌}
 use Prim.Native.Nat.{ℕ, suc, ◌+◌, ◌-◌, ◌*◌, ◌/◌, ◌%◌, ◌<◌, ◌≤◌}
-use native.Mathlib.Nat.{add-zero, mod-lt, mul-le-mul_left, mul-le-mul_right, mul-one, suc-mul, div-le_self, div-le_of_le-mul}
+use native.Mathlib.Nat.{mod-lt, mul-le-mul_left, mul-le-mul_right, mul-one, suc-mul, div-le_self, div-le_of_le-mul}
 use native.Mathlib.Omega.{arith}
 use lib.Arith.{digits_div, digits_mod}
 use lib.ListN.{length, take, drop}
@@ -10,19 +10,14 @@ use Rattle.format.specs.declared.Pixel.{Pixel}
 use Rattle.format.specs.Picture.{Picture, pixels, ceiling}
 use Rattle.format.specs.ColorTable.{per_pixel, packed_width, index_in, entry, unpacked}
 use Rattle.format.proofs.ColorTable.{per_pixel_pos, column_packed}
-use Rattle.pixel.specs.Cells.{pixel_cells, put_pixel, run, given}
-use Rattle.pixel.specs.Word.{unword}
+use Rattle.pixel.specs.Cells.{pixel_cells, run, given}
 use Rattle.pixel.proofs.Cells.{pixel_lawful, run_before}
 use Rattle.pixel.proofs.Part.{back, part_run, pixel_part}
 use Rattle.pixel.proofs.Given.{given_same, given_before, given_join}
 use Rattle.color_table.specs.Table.{ColumnsOf}
-use Rattle.color_table.specs.Unpack.{row_of, Columns, FourOf, FourAt, FourIn}
+use Rattle.color_table.specs.Unpack.{row_of, Columns}
 
 -- columns of a row
-
-pub given_one : (f : Picture) (i : ℕ) (xs ys : List ℕ) (v : Pixel) → v ≡ f i → ys ≡ put_pixel xs i v → ys ≡ run pixel_cells (given f) i 1 xs
-unfolding run given
-given_one f i xs ys v q p = let z = add-zero i in p ∙ cc (q)
 
 -- column x is that of its packed pixel's byte
 pub column_is : (n : ℕ) (e g : Picture) (first x b j : ℕ) (c : List ℕ) (v : Pixel) → ColumnsOf n e c → v ≡ pixels c j → b ≡ (g (x / n)).green → j ≡ b * n + x % n → b < 256 → 0 < n
@@ -32,44 +27,24 @@ column_is n e g first x b j c v h t p q l pos =
     let d : first + x - first ≡ x = omega arith in
     t ∙ rw (q, d, ← p) (h.at b (x % n) l (mod-lt x pos))
 
--- columns where a packed pixel holds one index
-module _ (e g : Picture) (first x : ℕ) (c : List ℕ) (h : ColumnsOf 1 e c) where
-  looked : (y i p : ℕ) → p ≡ (g y).green → p < 256 → i ≡ first + y → pixels c p ≡ row_of 1 e g first i
-  looked y i p q l m =
-      let d : y / 1 ≡ y = omega arith in
-      let a : p ≡ p * 1 + y % 1 = omega arith in
-      let t : p ≡ (g (y / 1)).green = rw d q in
-      rw m (column_is 1 e g first y p p c (pixels c p) h refl t a l (omega arith))
+-- column y at its index, and the same where a packed pixel holds one index
 
-  pub four_looked : (p q r s : ℕ) → (p ≡ (g x).green) × (p < 256) → (q ≡ (g (x + 1)).green) × (q < 256) → (r ≡ (g (x + 2)).green) × (r < 256) → (s ≡ (g (x + 3)).green) × (s < 256)
-      → FourAt (row_of 1 e g first) (first + x) p q r s c
-  four_looked p q r s i j k l =
-      record { first = looked x _ p i.0 i.1 refl; second = looked (x + 1) _ q j.0 j.1 (omega arith); third = looked (x + 2) _ r k.0 k.1 (omega arith); fourth = looked (x + 3) _ s l.0 l.1 (omega arith) }
+pub column_in : (n : ℕ) (e g : Picture) (first y i : ℕ) (v : Pixel) → v ≡ row_of n e g first (first + y) → i ≡ first + y → v ≡ row_of n e g first i
+column_in n e g first y i v p q = rw q p
 
--- four of the eight columns of packed pixel k, from column a on
-pub eight_in : (e g : Picture) (first k a b j p q : ℕ) (c : List ℕ) → ColumnsOf 8 e c → b ≡ (g k).green → j ≡ b * 8 → b < 256 → a ≤ 4 → p ≡ first + (k * 8 + a) → q ≡ j + a → FourIn (row_of 8 e g first) p q c
-unfolding row_of
-eight_in e g first k a b j p q c h t r l m z y i u =
-    let d : p + i - first ≡ k * 8 + (a + i) = omega arith in
-    let f : q + i ≡ b * 8 + (a + i) = omega arith in
-    let s : a + i < 8 = omega arith in
-    rw (f, d, digits_div k s, digits_mod k s, ← t) (h.at b (a + i) l s)
+pub column_looked : (n : ℕ) (e g : Picture) (first y i p : ℕ) (c : List ℕ) (v : Pixel) → n ≡ 1 → ColumnsOf n e c → (p ≡ (g y).green) × (p < 256) → v ≡ pixels c p → i ≡ first + y → v ≡ row_of n e g first i
+column_looked n e g first y i p c v one h b q m =
+    let d : y / 1 ≡ y = omega arith in
+    let a : p ≡ p * 1 + y % 1 = omega arith in
+    rw (m, one) (column_is 1 e g first y p p c v (rw one at h) q (rw d b.0) a b.1 (omega arith))
 
-pub four_columns : (f : Picture) (first x a b c d : ℕ) → unword a ≡ f (first + x) → unword b ≡ f (first + (x + 1)) → unword c ≡ f (first + (x + 2)) → unword d ≡ f (first + (x + 3))
-    → FourOf f (first + x) a b c d
-four_columns f first x a b c d p q r s =
-    let i : first + (x + 1) ≡ first + x + 1 = omega arith in
-    let j : first + (x + 2) ≡ first + x + 2 = omega arith in
-    let k : first + (x + 3) ≡ first + x + 3 = omega arith in
-    record { first = p; second = rw i at q; third = rw j at r; fourth = rw k at s }
-
-pub four_in : (f : Picture) (i j s t u v : ℕ) (c : List ℕ) → FourIn f i j c → unword s ≡ pixels c j → unword t ≡ pixels c (j + 1) → unword u ≡ pixels c (j + 2) → unword v ≡ pixels c (j + 3) → FourOf f i s t u v
-four_in f i j s t u v c h p q r w =
-    let z : pixels c j ≡ f i = rw (add-zero i, add-zero j) at (h 0 (omega arith)) in
-    record { first = p ∙ z; second = q ∙ h 1 (omega arith); third = r ∙ h 2 (omega arith); fourth = w ∙ h 3 (omega arith) }
+-- column a of the eight of packed pixel k
+pub column_of_eight : (n : ℕ) (e g : Picture) (first k a b i j : ℕ) (c : List ℕ) → n ≡ 8 → ColumnsOf n e c → b ≡ (g k).green → b < 256 → a < 8 → j ≡ b * 8 + a → i ≡ first + (k * 8 + a) → pixels c j ≡ row_of n e g first i
+column_of_eight n e g first k a b i j c q h t l m u y =
+    rw (q, u, y) (column_is 8 e g first (k * 8 + a) b (b * 8 + a) c (pixels c (b * 8 + a)) (rw q at h) refl (rw (digits_div k m) t) (rw (digits_mod k m) refl) l (omega arith))
 
 -- a row's columns over two buffers that agree on its packed pixels
-row_same : (n : ℕ) (e g h : Picture) (first i : ℕ) → g ((i - first) / n) ≡ h ((i - first) / n) → row_of n e g first i ≡ row_of n e h first i
+pub row_same : (n : ℕ) (e g h : Picture) (first i : ℕ) → g ((i - first) / n) ≡ h ((i - first) / n) → row_of n e g first i ≡ row_of n e h first i
 unfolding row_of
 row_same n e g h first i q = ap (λ (v : Pixel). e (index_in n v.green ((i - first) % n))) q
 

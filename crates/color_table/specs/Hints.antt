@@ -4,10 +4,11 @@
 use Rattle.std.specs.Prelude.{List, ◌≡◌, ℕ, suc, ◌+◌, ◌*◌, ◌/◌, ◌%◌, ◌<◌, ◌≤◌, length}
 use Rattle.format.specs.declared.Pixel.{Pixel}
 use Rattle.format.specs.Picture.{Picture, byte_at, pixels}
+use Rattle.pixel.specs.Word.{number}
 
 -- any function of the color would do
 unfoldable pub slot_of : Pixel → ℕ
-slot_of v = (v.red + 256 * v.green + 65536 * v.blue + 16777216 * v.alpha) * 2654435761 / 1048576 % 4096
+slot_of v = number v * 2654435761 / 1048576 % 4096
 
 -- what slot s holds, and the link of entry i
 abbrev pub in_slot : List ℕ → ℕ → ℕ

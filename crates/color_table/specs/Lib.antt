@@ -2,5 +2,9 @@
 pub mod Table
 pub mod Unpack
 pub mod Hints
+pub mod Found
 pub mod OneOf
+pub mod Four
+pub mod Row
+pub mod Packed
 pub mod Pack

@@ -1,12 +1,11 @@
 -- Color tables as arrays of rows of bytes, and the columns that are made of them.
 use Rattle.std.specs.Prelude.{List, [], ◌≡◌, ℕ, ◌+◌, ◌*◌, ◌<◌, get_or}
-use Rattle.format.specs.Pixel.{pixel}
-use Rattle.format.specs.Picture.{Picture, byte_at, pixels}
+use Rattle.format.specs.Picture.{Picture, pixels}
 use Rattle.format.specs.ColorTable.{index_in}
 
 -- entry i of a table: row i, its first four bytes
 unfoldable pub entry_in : List (List ℕ) → Picture
-entry_in t i = pixel (byte_at (get_or t i []) 0) (byte_at (get_or t i []) 1) (byte_at (get_or t i []) 2) (byte_at (get_or t i []) 3)
+entry_in t i = pixels (get_or t i []) 0
 
 -- the table t has the entries of e
 pub record TableOf (e : Picture) (t : List (List ℕ)) : Type 0 where

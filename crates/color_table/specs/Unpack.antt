@@ -1,9 +1,8 @@
 -- What unpacking writes. n is how many indices a packed pixel holds, e the table.
-use Rattle.std.specs.Prelude.{List, ◌≡◌, ℕ, ◌+◌, ◌-◌, ◌*◌, ◌/◌, ◌%◌, ◌<◌}
+use Rattle.std.specs.Prelude.{List, ◌≡◌, ℕ, ◌+◌, ◌-◌, ◌*◌, ◌/◌, ◌%◌}
 use Rattle.format.specs.Picture.{Picture, pixels}
 use Rattle.format.specs.ColorTable.{per_pixel, index_in, entry, unpacked}
 use Rattle.pixel.specs.Cells.{pixel_cells, run, given}
-use Rattle.pixel.specs.Word.{unword}
 use Rattle.color_table.specs.Table.{ColumnsOf}
 
 -- a row's columns from pixel a on, from the packed pixels g
@@ -16,30 +15,8 @@ abbrev pub Columns : ℕ → List ℕ → ℕ → ℕ → ℕ → List ℕ → L
 Columns n c first x m xs ys =
     (e : Picture) → ColumnsOf n e c → ys ≡ run pixel_cells (given (row_of n e (pixels xs) first)) (first + x) m xs
 
--- f has these four pixels from j on
-pub record FourOf (f : Picture) (j a b c d : ℕ) : Type 0 where
-  pub first : unword a ≡ f j
-  pub second : unword b ≡ f (j + 1)
-  pub third : unword c ≡ f (j + 2)
-  pub fourth : unword d ≡ f (j + 3)
-
--- f has pixels p, q, r and s of c from i on
-pub record FourAt (f : Picture) (i p q r s : ℕ) (c : List ℕ) : Type 0 where
-  pub first : pixels c p ≡ f i
-  pub second : pixels c q ≡ f (i + 1)
-  pub third : pixels c r ≡ f (i + 2)
-  pub fourth : pixels c s ≡ f (i + 3)
-
--- f has pixels j to j + 3 of c from i on
-abbrev pub FourIn : Picture → ℕ → ℕ → List ℕ → Type 0
-FourIn f i j c = (k : ℕ) → k < 4 → pixels c (j + k) ≡ f (i + k)
-
 -- ys is xs with row y of the picture unpacked, w columns wide
 abbrev pub RowUnpacked : ℕ → ℕ → ℕ → List ℕ → List ℕ → List ℕ → Type 0
 RowUnpacked w size y c xs ys =
     (e : Picture) → ColumnsOf (per_pixel size) (entry size e) c
     → ys ≡ run pixel_cells (given (unpacked w size e (pixels xs))) (y * w) w xs
-
--- ys is xs with four pixels of f there, from pixel i on
-abbrev pub Four : Picture → ℕ → List ℕ → List ℕ → Type 0
-Four f i xs ys = ys ≡ run pixel_cells (given f) i 4 xs

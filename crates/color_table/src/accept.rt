@@ -3,82 +3,66 @@
 ghost use Rattle.std.specs.Prelude.{◌≡◌, true, ◌+◌, ◌*◌, ◌%◌, ◌≤◌, length};
 ghost use Rattle.format.specs.Picture.{pixels};
 ghost use Rattle.format.specs.ColorTable.{has_entry, have_entries};
-ghost use Rattle.pixel.specs.Word.{unword};
-ghost use Rattle.color_table.specs.Hints.{Hints, Table};
 
-use crate::find::{find, first_holds, same};
-use crate::groups::{eight_of, pass};
-use pixel::word::word_at;
+use crate::groups::{group_of, pass};
+use crate::lookup::Lookup;
+use pixel::word::Word;
 
-// Whether each of the first `to` pixels has an entry, where those before `from` have.
-fn accept_each(
-    row: &[u8],
-    from: usize,
-    to: usize,
-    entries: &[u8],
-    size: usize,
-    hints: &[u8],
-) -> bool
-    requires table { Table size entries.now hints.now }
-    requires from_le_to { (from ≤ to) × (4 * to ≤ length row.now) }
-    requires row_value { have_entries size (pixels entries.now) from (pixels row.now) ≡ true }
-    ensures { result ≡ have_entries size (pixels entries.now) to (pixels row.now) }
-{
-    let mut i = from;
-    while i < to {
-        if size <= find(entries, size, hints, word_at(row, i)) {
-            return false;
+impl<'a> Lookup<'a> {
+    // Whether each of the first `to` pixels has an entry, where those before `from` have.
+    fn accept_each(&self, row: &[u8], from: usize, to: usize) -> bool
+        requires from_le_to { (from ≤ to) × (4 * to ≤ length row.now) }
+        requires before { have_entries self.now.size (pixels self.now.entries.now) from (pixels row.now) ≡ true }
+        ensures { result ≡ have_entries self.now.size (pixels self.now.entries.now) to (pixels row.now) }
+    {
+        for i in from..to {
+            if self.find(Word::at(row, i)).is_none() {
+                return false;
+            }
         }
-        i += 1;
+        true
     }
-    true
-}
 
-// Whether each of the first i + 16 pixels has an entry, where those before i have and a has one. Most groups are the
-// pixel before them, a, or that and one color more: one branch for both, so that a change of color is not mispredicted.
-fn accept_group(row: &[u8], i: usize, a: u32, entries: &[u8], size: usize, hints: &[u8]) -> bool
-    requires table { Table size entries.now hints.now }
-    requires i_in_bounds { 4 * (i + 16) ≤ length row.now }
-    requires row_value { (have_entries size (pixels entries.now) i (pixels row.now) ≡ true)
-        × (has_entry size (pixels entries.now) (unword a) ≡ true) }
-    ensures { result ≡ have_entries size (pixels entries.now) (i + 16) (pixels row.now) }
-{
-    let c = word_at(row, i + 15);
-    let known = first_holds(entries, size, hints, c) | same(c, a);
-    if known & (eight_of(row, i, a, c) & eight_of(row, i + 8, a, c)) {
-        return true;
-    }
-    accept_each(row, i, i + 16, entries, size, hints)
-}
-
-// The same from the first pixel on, by groups. At first those of two entries are passed, so that no group of a picture
-// of two colors is looked up.
-fn accept_groups(row: &[u8], count: usize, entries: &[u8], size: usize, hints: &[u8]) -> bool
-    requires table { Table size entries.now hints.now }
-    requires count_value { (count % 16 ≡ 0) × (4 * count ≤ length row.now) }
-    ensures { result ≡ have_entries size (pixels entries.now) count (pixels row.now) }
-{
-    let mut a = word_at(entries, 0);
-    let mut i = pass(row, 0, count, a, word_at(entries, size - 1));
-    while i < count {
-        if !accept_group(row, i, a, entries, size, hints) {
-            return false;
+    // Whether each of the first i + 16 pixels has an entry, where those before i have and a has one. Most groups are
+    // the pixel before them, a, or that and one color more: one branch for both, so that a change of color is not
+    // mispredicted.
+    fn accept_group(&self, row: &[u8], i: usize, a: Word) -> bool
+        requires i_in_bounds { 4 * (i + 16) ≤ length row.now }
+        requires before { have_entries self.now.size (pixels self.now.entries.now) i (pixels row.now) ≡ true }
+        requires has { has_entry self.now.size (pixels self.now.entries.now) a ≡ true }
+        ensures { result ≡ have_entries self.now.size (pixels self.now.entries.now) (i + 16) (pixels row.now) }
+    {
+        let c = Word::at(row, i + 15);
+        let known = self.first_holds(c) | (c == a);
+        if known & group_of(row, i, a, c) {
+            return true;
         }
-        a = word_at(row, i + 15);
-        i += 16;
+        self.accept_each(row, i, i + 16)
     }
-    true
-}
 
-// Whether each of the first `count` pixels has an entry.
-pub fn accept(row: &[u8], count: usize, entries: &[u8], size: usize, hints: &[u8]) -> bool
-    requires le_size { (1 ≤ size) × (size ≤ 256) × (4 * size ≤ length entries.now) × (4 * count ≤ length row.now) }
-    requires hints { Hints size (pixels entries.now) hints.now }
-    ensures { result ≡ have_entries size (pixels entries.now) count (pixels row.now) }
-{
-    let whole = count / 16 * 16;
-    if !accept_groups(row, whole, entries, size, hints) {
-        return false;
+    // The same from the first pixel on, by groups. At first those of two entries are passed, so that no group of a
+    // picture of two colors is looked up.
+    fn accept_groups(&self, row: &[u8], count: usize) -> bool
+        requires { (count % 16 ≡ 0) × (4 * count ≤ length row.now) }
+        ensures { result ≡ have_entries self.now.size (pixels self.now.entries.now) count (pixels row.now) }
+    {
+        let mut a = Word::at(self.entries, 0);
+        let from = pass(row, 0, count, a, Word::at(self.entries, self.size - 1));
+        for i in (from..count).step_by(16) {
+            if !self.accept_group(row, i, a) {
+                return false;
+            }
+            a = Word::at(row, i + 15);
+        }
+        true
     }
-    accept_each(row, whole, count, entries, size, hints)
+
+    // Whether each of the first `count` pixels has an entry.
+    pub fn accept(&self, row: &[u8], count: usize) -> bool
+        requires { 4 * count ≤ length row.now }
+        ensures { result ≡ have_entries self.now.size (pixels self.now.entries.now) count (pixels row.now) }
+    {
+        let whole = count / 16 * 16;
+        self.accept_groups(row, whole) && self.accept_each(row, whole, count)
+    }
 }

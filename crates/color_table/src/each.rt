@@ -1,119 +1,120 @@
 // Storing: records of a strip by looking up each pixel.
-ghost use Rattle.std.specs.Prelude.{◌≡◌, ◌+◌, ◌-◌, ◌*◌, ◌<◌, ◌≤◌, length};
+ghost use Rattle.std.specs.Prelude.{◌≡◌, ℕ, ◌+◌, ◌-◌, ◌*◌, ◌<◌, ◌≤◌, length};
 ghost use Rattle.format.specs.Pixel.{pixel};
 ghost use Rattle.format.specs.Picture.{pixels};
-ghost use Rattle.format.specs.ColorTable.{packed_width};
-ghost use Rattle.pixel.specs.Word.{unword};
-ghost use Rattle.color_table.specs.Hints.{Table};
-ghost use Rattle.color_table.specs.Pack.{Row, Packs, Records, RecordsBy, RecordFrom, row_indices};
+ghost use Rattle.format.specs.ColorTable.{range, digits};
+ghost use Rattle.color_table.specs.Row.{Row};
 
-use crate::find::find;
-use pixel::word::{join, put_word, word_at};
+use crate::lookup::Lookup;
+use pixel::replace::replace;
+use pixel::word::Word;
 
-// How a row of `width` pixels is packed by a table of `size` entries: n indices to a record, each below `range`.
-#[derive(Clone, Copy)]
-pub struct Packing {
+// A row of `width` pixels that have entries, N of whose indices go into a record.
+#[derive(Drop)]
+pub struct Packing<'a, const N: usize> {
+    pub lookup: &'a Lookup<'a>,
+    pub row: &'a [u8],
     pub width: usize,
-    pub size: usize,
-    pub n: usize,
-    pub range: usize,
+    pub ghost packs: { Row lookup.now.size width N lookup.now.entries.now row.now },
 }
 
-pub fn record_of(b: u32) -> u32
-    requires { b < 256 }
-    ensures { unword result ≡ pixel 0 b 0 255 }
-{
-    join(0, b, 0, 255)
-}
+impl<'a, const N: usize> Packing<'a, N> {
+    ghost use Rattle.color_table.specs.Packed.{record_count, index_in_row, record_of, RecordsOf};
 
-// The index at position a + k of a row: its column's or, past the row's end, `before`, which is the last column's. A
-// row has at most 16384 columns: the bound is any that keeps the sum in range.
-fn index_at(
-    row: &[u8],
-    a: usize,
-    k: usize,
-    before: usize,
-    entries: &[u8],
-    hints: &[u8],
-    p: Packing,
-) -> usize
-    requires packs { Packs p entries.now hints.now row.now }
-    requires k_bound { (a + k ≤ 1000000) × (p.width ≤ a + k → before ≡ row_indices p.width p.size
-        (pixels entries.now) (pixels row.now) a k) }
-    ensures { (result ≡ row_indices p.width p.size (pixels entries.now)
-        (pixels row.now) a k) × (result < p.range) }
-{
-    let x = a + k;
-    if x < p.width {
-        find(entries, p.size, hints, word_at(row, x))
-    } else {
-        before
+    // The record of N indices, lowest first.
+    #[inline(always)]
+    pub fn record<F: Fn(usize) -> u32>(&self, index: F) -> Word
+        requires asked { (k : ℕ) → k < N → F.pre index k }
+        requires small { (k r : ℕ) → k < N → F.post index k r → r < range N }
+        ensures { (g : ℕ → ℕ) → ((k r : ℕ) → k < N → F.post index k r → r ≡ g k)
+            → result ≡ pixel 0 (digits (range N) N g) 0 255 }
+    {
+        let mut byte = 0;
+        for k in (0..N).rev() {
+            byte = (byte << (8 / N)) + index(k);
+        }
+        Word::from([0, byte as u8, 0, 255])
     }
-}
 
-// The record whose first position is a, lowest index first.
-fn pack_record(row: &[u8], a: usize, entries: &[u8], hints: &[u8], p: Packing) -> u32
-    requires packs { Packs p entries.now hints.now row.now }
-    requires a_lt_width { a < p.width }
-    ensures { RecordFrom p.size p.width p.n p.range entries.now row.now a result }
-{
-    let mut b = 0;
-    let mut weight = 1;
-    let mut index = 0;
-    let mut k = 0;
-    while k < p.n {
-        index = index_at(row, a, k, index, entries, hints, p);
-        b = b + weight * index;
-        weight = weight * p.range;
-        k += 1;
+    // The index of column x.
+    #[inline(always)]
+    fn index_inside(&self, x: usize) -> u32
+        requires { x < self.now.width }
+        ensures { (result ≡ index_in_row self.now x) × (result < range N) }
+    {
+        let row = self.row;
+        self.lookup.index(Word::at(row, x)) as u32
     }
-    record_of(b as u32)
-}
 
-// Records `from` up to `to`.
-pub fn pack_each(
-    row: &[u8],
-    out: &mut [u8],
-    from: usize,
-    to: usize,
-    entries: &[u8],
-    hints: &[u8],
-    p: Packing,
-)
-    requires packs { Packs p entries.now hints.now row.now }
-    requires from_le_to { (from ≤ to) × (to ≤ packed_width p.size p.width) × (4 * to ≤ length out.old) }
-    ensures { RecordsBy p entries.now row.now from (to - from) out.old
-        out.new }
-{
-    let mut j = from;
-    while j < to {
-        put_word(out, j, pack_record(row, j * p.n, entries, hints, p));
-        j += 1;
+    // The index at position x: its column's or, past the row's end, the last column's.
+    fn index_at(&self, x: usize) -> u32
+        ensures { (result ≡ index_in_row self.now x) × (result < range N) }
+    {
+        if x < self.width {
+            self.index_inside(x)
+        } else {
+            self.index_inside(self.width - 1)
+        }
     }
-}
 
-// The same where a record holds two, and is inside the row.
-pub fn pack_doubles(
-    row: &[u8],
-    width: usize,
-    out: &mut [u8],
-    from: usize,
-    to: usize,
-    entries: &[u8],
-    size: usize,
-    hints: &[u8],
-)
-    requires table { Table size entries.now hints.now }
-    requires row { Row size width 2 16 entries.now row.now }
-    requires from_le_to { (from ≤ to) × (2 * to ≤ width) × (4 * to ≤ length out.old) }
-    ensures { Records width size entries.now row.now from (to - from) out.old
-        out.new }
-{
-    let mut j = from;
-    while j < to {
-        let low = find(entries, size, hints, word_at(row, 2 * j));
-        let high = find(entries, size, hints, word_at(row, 2 * j + 1));
-        put_word(out, j, record_of((low + 16 * high) as u32));
-        j += 1;
+    // Record j.
+    fn record_at(&self, j: usize) -> Word
+        requires { j < record_count self.now }
+        ensures { result ≡ record_of self.now j }
+    {
+        let a = j * N;
+        self.record(
+            |k: usize|
+                requires { a + k ≤ 32768 }
+                ensures { (result ≡ index_in_row self.entry.now (a + k)) × (result < range N) }
+            { self.index_at(a + k) },
+        )
+    }
+
+    // The same where it is inside the row.
+    #[inline(always)]
+    fn record_inside(&self, j: usize) -> Word
+        requires { (j + 1) * N ≤ self.now.width }
+        ensures { result ≡ record_of self.now j }
+    {
+        let a = j * N;
+        self.record(
+            |k: usize|
+                requires { a + k < self.now.width }
+                ensures { (result ≡ index_in_row self.entry.now (a + k)) × (result < range N) }
+            { self.index_inside(a + k) },
+        )
+    }
+
+    // Records `from` up to `to`.
+    pub fn put_each(&self, out: &mut [u8], from: usize, to: usize)
+        requires { (from ≤ to) × (to ≤ record_count self.now) × (4 * to ≤ length out.old) }
+        ensures { RecordsOf self.now from (to - from) out.old out.new }
+    {
+        replace(
+            out,
+            from,
+            to,
+            |_: &[u8], j: usize|
+                requires { j < record_count self.now }
+                ensures { result ≡ record_of self.entry.now j }
+            { self.record_at(j) },
+        );
+    }
+
+    // The same of records that are inside the row.
+    pub fn put_inside(&self, out: &mut [u8], from: usize, to: usize)
+        requires { (from ≤ to) × (to * N ≤ self.now.width) × (4 * to ≤ length out.old) }
+        ensures { RecordsOf self.now from (to - from) out.old out.new }
+    {
+        replace(
+            out,
+            from,
+            to,
+            |_: &[u8], j: usize|
+                requires { (j + 1) * N ≤ self.now.width }
+                ensures { result ≡ record_of self.entry.now j }
+            { self.record_inside(j) },
+        );
     }
 }

@@ -7,6 +7,7 @@ pub mod find;
 mod flat;
 mod four;
 pub mod groups;
+pub mod lookup;
 pub mod pack;
 mod runs;
 pub mod table;

@@ -3,17 +3,21 @@
 ghost use Rattle.std.specs.Prelude.{◌≡◌, ℕ, ◌+◌, ◌-◌, ◌*◌, ◌<◌, ◌≤◌, length};
 ghost use Rattle.format.specs.Picture.{Picture, pixels};
 ghost use Rattle.format.specs.ColorTable.{packed_width};
+ghost use Rattle.pixel.specs.Cells.{pixel_cells, run, given};
 ghost use Rattle.pixel.specs.Stride.{Places};
-ghost use Rattle.pixel.specs.Word.{unword};
 ghost use Rattle.color_table.specs.Table.{ColumnsOf};
-ghost use Rattle.color_table.specs.Unpack.{row_of, Columns, FourIn, FourAt, Four, RowUnpacked};
+ghost use Rattle.color_table.specs.Four.{FourOf};
+ghost use Rattle.color_table.specs.Unpack.{row_of, Columns, RowUnpacked};
 
 use crate::four::put_four;
+use format::Pixel;
 use pixel::pixel::{pixel_at, put_pixel};
+use pixel::replace::replace_back;
 use pixel::stride::{Expanded, Packed, per_pixel};
-use pixel::word::{put_word, word_at};
+use pixel::word::Word;
 
 // The byte of packed pixel k.
+#[inline(always)]
 fn packed_byte(part: &[u8], k: usize) -> usize
     requires { 4 * k + 4 ≤ length part.now }
     ensures { (result ≡ (pixels part.now k).green) × (result < 256) }
@@ -21,17 +25,9 @@ fn packed_byte(part: &[u8], k: usize) -> usize
     part[4 * k + 1] as usize
 }
 
-// Column x of the row whose packed pixels `part` starts with.
-fn column_at(part: &[u8], x: usize, n: usize, columns: &[u8; 8192]) -> u32
-    requires { Places n × (4 * x + 4 ≤ length part.now) }
-    ensures { (e : Picture) (first : ℕ) → ColumnsOf n e columns.now → unword result
-        ≡ row_of n e (pixels part.now) first (first + x) }
-{
-    word_at(columns, packed_byte(part, x / n) * n + x % n)
-}
-
-// Pixels p, q, r and s of `columns` as pixels i to i + 3: by bytes, so that the compiler moves two pixels at once.
-fn put_entries(
+// Pixels p, q, r and s of `columns` as pixels i to i + 3: by bytes, and without the generic `put_four`, so that the
+// compiler moves two pixels at once.
+fn move_four(
     part: &mut [u8],
     i: usize,
     p: usize,
@@ -40,9 +36,9 @@ fn put_entries(
     s: usize,
     columns: &[u8; 8192],
 )
-    requires { (4 * i + 16 ≤ length part.old) × (p < 256) × (q < 256) × (r < 256) × (s < 256) }
-    ensures { (f : Picture) → FourAt f i p q r s columns.now
-        → Four f i part.old part.new }
+    requires { (4 * (i + 4) ≤ length part.old) × (p < 256) × (q < 256) × (r < 256) × (s < 256) }
+    ensures { (f : Picture) → FourOf f i (pixels columns.now p) (pixels columns.now q) (pixels columns.now r)
+        (pixels columns.now s) → part.new ≡ run pixel_cells (given f) i 4 part.old }
 {
     let k = i + 1;
     let l = i + 2;
@@ -57,137 +53,155 @@ fn put_entries(
     put_pixel(part, m, d);
 }
 
-// Four columns where a packed pixel holds one index: all indices are read before a column is.
-fn look_up_four(part: &mut [u8], first: usize, x: usize, columns: &[u8; 8192])
-    requires { 4 * (first + x) + 16 ≤ length part.old }
-    ensures { Columns 1 columns.now first x 4 part.old part.new }
-{
-    let p = packed_byte(part, x);
-    let q = packed_byte(part, x + 1);
-    let r = packed_byte(part, x + 2);
-    let s = packed_byte(part, x + 3);
-    put_entries(part, first + x, p, q, r, s, columns);
+// The columns of every byte, which has N indices: what rows are unpacked by.
+#[derive(Drop)]
+struct Unpacking<'a, const N: usize> {
+    columns: &'a [u8; 8192],
+    ghost some: { 1 ≤ N },
+    ghost most: { N ≤ 8 },
 }
 
-// Four columns, all of them read before one is written.
-fn read_four(part: &mut [u8], first: usize, x: usize, n: usize, columns: &[u8; 8192])
-    requires { Places n × (4 * (first + x) + 16 ≤ length part.old) }
-    ensures { Columns n columns.now first x 4 part.old part.new }
-{
-    let s = column_at(part, x, n, columns);
-    let t = column_at(part, x + 1, n, columns);
-    let u = column_at(part, x + 2, n, columns);
-    let v = column_at(part, x + 3, n, columns);
-    put_four(part, first + x, s, t, u, v);
-}
+// `part` starts with a row's packed pixels, and its columns go to pixel `first` on.
+impl<'a, const N: usize> Unpacking<'a, N> {
+    // Column x.
+    #[inline(always)]
+    fn column_at(&self, part: &[u8], x: usize) -> Word
+        requires { 4 * x + 4 ≤ length part.now }
+        ensures { (e : Picture) (first : ℕ) → ColumnsOf N e self.now.columns.now
+            → result ≡ row_of N e (pixels part.now) first (first + x) }
+    {
+        let columns = self.columns;
+        Word::at(columns, packed_byte(part, x / N) * N + x % N)
+    }
 
-// Four columns, by the faster way for n.
-fn unpack_four(part: &mut [u8], first: usize, x: usize, n: usize, columns: &[u8; 8192])
-    requires { Places n × (4 * (first + x) + 16 ≤ length part.old) }
-    ensures { Columns n columns.now first x 4 part.old part.new }
-{
-    if n == 1 {
-        look_up_four(part, first, x, columns);
-    } else {
-        read_four(part, first, x, n, columns);
+    // Four columns, all of them read before one is written.
+    fn put_four(&self, part: &mut [u8], first: usize, x: usize)
+        requires { 4 * (first + x + 4) ≤ length part.old }
+        ensures { Columns N self.now.columns.now first x 4 part.old part.new }
+    {
+        let columns = self.columns;
+        let i = first + x;
+        if N == 1 {
+            let p = packed_byte(part, x);
+            let q = packed_byte(part, x + 1);
+            let r = packed_byte(part, x + 2);
+            let s = packed_byte(part, x + 3);
+            move_four(part, i, p, q, r, s, columns);
+        } else {
+            let a = self.column_at(part, x);
+            let b = self.column_at(part, x + 1);
+            let c = self.column_at(part, x + 2);
+            let d = self.column_at(part, x + 3);
+            put_four(part, i, a, b, c, d);
+        }
+    }
+
+    // Pixels j to j + 3 of `columns` as pixels i to i + 3.
+    #[inline(always)]
+    fn copy_four(&self, part: &mut [u8], i: usize, j: usize)
+        requires { (4 * (i + 4) ≤ length part.old) × (j + 4 ≤ 2048) }
+        ensures { (f : Picture) → ((k : ℕ) → k < 4 → pixels self.now.columns.now (j + k) ≡ f (i + k))
+            → part.new ≡ run pixel_cells (given f) i 4 part.old }
+    {
+        let columns = self.columns;
+        put_four(
+            part,
+            i,
+            Word::at(columns, j),
+            Word::at(columns, j + 1),
+            Word::at(columns, j + 2),
+            Word::at(columns, j + 3),
+        );
+    }
+
+    // The columns of packed pixel k, where it holds eight indices.
+    #[inline(always)]
+    fn put_pixel(&self, part: &mut [u8], first: usize, k: usize)
+        requires { (N ≡ 8) × (4 * (first + 8 * k + 8) ≤ length part.old) }
+        ensures { Columns N self.now.columns.now first (8 * k) 8 part.old part.new }
+    {
+        let j = packed_byte(part, k) * 8;
+        let i = first + 8 * k;
+        self.copy_four(part, i + 4, j + 4);
+        self.copy_four(part, i, j);
+    }
+
+    // The columns of the first `count` packed pixels, where each holds eight.
+    fn put_eights(&self, part: &mut [u8], first: usize, count: usize)
+        requires { (N ≡ 8) × (4 * (first + 8 * count) ≤ length part.old) }
+        ensures { Columns N self.now.columns.now first 0 (8 * count) part.old part.new }
+    {
+        for k in (0..count).rev() {
+            self.put_pixel(part, first, k);
+        }
+    }
+
+    // The first 4 * count columns.
+    fn put_fours(&self, part: &mut [u8], first: usize, count: usize)
+        requires { 4 * (first + 4 * count) ≤ length part.old }
+        ensures { Columns N self.now.columns.now first 0 (4 * count) part.old part.new }
+    {
+        for k in (0..count).rev() {
+            self.put_four(part, first, 4 * k);
+        }
+    }
+
+    // The first 8 * count columns, by the faster way for N.
+    fn put_front(&self, part: &mut [u8], first: usize, count: usize)
+        requires { 4 * (first + 8 * count) ≤ length part.old }
+        ensures { Columns N self.now.columns.now first 0 (8 * count) part.old part.new }
+    {
+        if N == 8 {
+            self.put_eights(part, first, count);
+        } else {
+            self.put_fours(part, first, 2 * count);
+        }
+    }
+
+    // Columns `from` up to `width`, one by one.
+    fn put_rest(&self, part: &mut [u8], first: usize, from: usize, width: usize)
+        requires { (from ≤ width) × (4 * (first + width) ≤ length part.old) }
+        ensures { Columns N self.now.columns.now first from (width - from) part.old part.new }
+    {
+        replace_back(
+            part,
+            first + from,
+            first + width,
+            |part: &[u8], i: usize|
+                requires { (first ≤ i) × (4 * i + 4 ≤ length part.now) }
+                ensures { (e : Picture) → ColumnsOf N e self.entry.now.columns.now
+                    → result ≡ row_of N e (pixels part.now) first (first + (i - first)) }
+            { Pixel::from(self.column_at(part, i - first)) },
+        );
+    }
+
+    // All `width` columns.
+    fn put_row(&self, part: &mut [u8], first: usize, width: usize)
+        requires { 4 * (first + width) ≤ length part.old }
+        ensures { Columns N self.now.columns.now first 0 width part.old part.new }
+    {
+        let eights = width / 8;
+        self.put_rest(part, first, 8 * eights, width);
+        self.put_front(part, first, eights);
     }
 }
 
-// The first 4 * count columns.
-fn unpack_fours(part: &mut [u8], first: usize, count: usize, n: usize, columns: &[u8; 8192])
-    requires { Places n × (4 * (first + 4 * count) ≤ length part.old) }
-    ensures { Columns n columns.now first 0 (4 * count) part.old part.new }
-{
-    let mut q = count;
-    while 0 < q {
-        q -= 1;
-        unpack_four(part, first, 4 * q, n, columns);
-    }
-}
-
-// Pixels j to j + 3 of `columns` as pixels i to i + 3.
-fn put_columns(part: &mut [u8], i: usize, columns: &[u8; 8192], j: usize)
-    requires { (4 * i + 16 ≤ length part.old) × (j + 4 ≤ 2048) }
-    ensures { (f : Picture) → FourIn f i j columns.now
-        → Four f i part.old part.new }
-{
-    let s = word_at(columns, j);
-    let t = word_at(columns, j + 1);
-    let u = word_at(columns, j + 2);
-    let v = word_at(columns, j + 3);
-    put_four(part, i, s, t, u, v);
-}
-
-// The columns of packed pixel k, where it holds eight indices.
-fn unpack_eight(part: &mut [u8], first: usize, k: usize, columns: &[u8; 8192])
-    requires { 4 * (first + 8 * k) + 32 ≤ length part.old }
-    ensures { Columns 8 columns.now first (8 * k) 8 part.old part.new }
-{
-    let j = packed_byte(part, k) * 8;
-    let i = first + 8 * k;
-    put_columns(part, i + 4, columns, j + 4);
-    put_columns(part, i, columns, j);
-}
-
-// The columns of the first `count` packed pixels, where each holds eight.
-fn unpack_eights(part: &mut [u8], first: usize, count: usize, columns: &[u8; 8192])
-    requires { 4 * (first + 8 * count) ≤ length part.old }
-    ensures { Columns 8 columns.now first 0 (8 * count) part.old part.new }
-{
-    let mut k = count;
-    while 0 < k {
-        k -= 1;
-        unpack_eight(part, first, k, columns);
-    }
-}
-
-// The first 8 * count columns: in each arm n is a constant, for which the loop is compiled.
-fn unpack_by(part: &mut [u8], first: usize, count: usize, n: usize, columns: &[u8; 8192])
-    requires { Places n × (4 * (first + 8 * count) ≤ length part.old) }
-    ensures { Columns n columns.now first 0 (8 * count) part.old part.new }
-{
-    if n == 8 {
-        unpack_eights(part, first, count, columns);
-    } else if n == 4 {
-        unpack_fours(part, first, 2 * count, 4, columns);
-    } else if n == 2 {
-        unpack_fours(part, first, 2 * count, 2, columns);
-    } else {
-        unpack_fours(part, first, 2 * count, 1, columns);
-    }
-}
-
-// Columns `from` up to `width`, one by one.
-fn unpack_rest(
-    part: &mut [u8],
-    first: usize,
-    from: usize,
-    width: usize,
-    n: usize,
-    columns: &[u8; 8192],
-)
-    requires { Places n × (from ≤ width) × (4 * (first + width) ≤ length part.old) }
-    ensures { Columns n columns.now first from (width - from) part.old
-        part.new }
-{
-    let mut x = width;
-    while from < x {
-        x -= 1;
-        put_word(part, first + x, column_at(part, x, n, columns));
-    }
-}
-
-// A row: `part` starts with its packed pixels, and its columns go to `width` pixels from pixel `first` on.
+// A row of `width` columns, n to a packed pixel: in each arm N is a constant, for which the loops are compiled.
 fn unpack_row(part: &mut [u8], first: usize, width: usize, n: usize, columns: &[u8; 8192])
     requires { Places n × (4 * (first + width) ≤ length part.old) }
     ensures { Columns n columns.now first 0 width part.old part.new }
 {
-    let eights = width / 8;
-    unpack_rest(part, first, 8 * eights, width, n, columns);
-    unpack_by(part, first, eights, n, columns);
+    match n {
+        8 => Unpacking::<8> { columns }.put_row(part, first, width),
+        4 => Unpacking::<4> { columns }.put_row(part, first, width),
+        2 => Unpacking::<2> { columns }.put_row(part, first, width),
+        _ => Unpacking::<1> { columns }.put_row(part, first, width),
+    }
 }
 
 // Row y of the picture. Its part of the buffer goes from its packed pixels to its last column.
+// Not inlined, so that four pixels of one index are stored at once: with columns that are a local, two are.
+#[inline(never)]
 pub fn unpack_row_at(
     image: &mut [u8],
     y: usize,

@@ -7,14 +7,15 @@ use Prim.Native.Nat.{ℕ, zero, suc, ◌+◌, ◌*◌, ◌<◌, ◌≤◌}
 use native.Mathlib.Decide.{ℕ_discrete}
 use native.Mathlib.Omega.{arith}
 use borrow.Author.Tests.{leb-true, le-leb, lt-leb, ne_eqb}
-use lib.Dec.{eqb, leb, lit≤}
+use lib.Dec.{eqb, leb, ltb, lit≤}
 use lib.ListN.{length}
-use Rattle.format.specs.declared.Checked.{Checked}
-use Rattle.format.specs.declared.Checked.TheVariants.{Taken, UnknownKind, KindAgain, NotTabled, WrongLength, BeyondData}
+use Rattle.std.specs.Prelude.{Ok, Err, if◌then◌else◌}
+use Rattle.format.specs.declared.Refusal.TheVariants.{UnknownKind, KindAgain, NotTabled, WrongLength, BeyondData}
+use Rattle.format.specs.declared.Step.{Step}
 use Rattle.format.specs.declared.Pixel.{Pixel}
 use Rattle.format.specs.Picture.{Picture, pixels, written}
 use Rattle.format.specs.Chain.{step_at, count}
-use Rattle.format.specs.Refusals.{used_before, checked, number, ◌unless◌, ◌before◌, accepted, records_refusal, in_range, whole_records, size_refusal, chain_refusal, input_refusal}
+use Rattle.format.specs.Refusals.{used_before, tabled, tabled_length, checked, returned, ◌unless◌, ◌before◌, accepted, records_refusal, in_range, whole_records, size_refusal, chain_refusal, input_refusal}
 use Rattle.format.specs.Stages.{stored, rebuilt, accepts}
 use Rattle.format.specs.Retouch.{changes, differ, marks, mask_of, new_strip, unmade, point_answer}
 use Rattle.format.specs.Calls.{holds, records, pair_refusal, rebuild_answer, rebuild_image, store_answer, store_strip, inside, painted, touched, retouch_answer, retouch_picture, retouch_strip}
@@ -35,19 +36,24 @@ pub unless_is : (P : ℕ → Type 0) (n : ℕ) (b : Bool) → P 0 → P n → P 
 unless_is P n true p q = p
 unless_is P n false p q = q
 
-number_most : (c : Checked) → number c ≤ 7
-number_most (Taken s) = lit≤ tt
-number_most UnknownKind = lit≤ tt
-number_most KindAgain = lit≤ tt
-number_most NotTabled = lit≤ tt
-number_most WrongLength = lit≤ tt
-number_most BeyondData = lit≤ tt
+checked_most : (again : Bool) (h : ℕ) (ds : List ℕ) (s : Step) → returned (checked again h ds s) ≤ 7
+unfolding checked
+checked_most again h ds s = go (ltb 3 s.kind) again (tabled s) (eqb s.length (tabled_length s h)) (ltb (length ds) (s.offset + s.length))
+  where
+    go : (a b c d e : Bool)
+        → returned (if a then Err UnknownKind else (if b then Err KindAgain else (if not c then Err NotTabled else (if not d then Err WrongLength else (if e then Err BeyondData else Ok s))))) ≤ 7
+    go true b c d e = lit≤ tt
+    go false true c d e = lit≤ tt
+    go false false false d e = lit≤ tt
+    go false false true false e = lit≤ tt
+    go false false true true true = lit≤ tt
+    go false false true true false = lit≤ tt
 
 records_most : (cs : List ℕ) (w h : ℕ) (ds : List ℕ) (k : ℕ) → records_refusal cs w h ds k ≤ 7
 unfolding records_refusal
 records_most cs w h ds zero = lit≤ tt
 records_most cs w h ds (suc k) =
-    before_is (λ r. r ≤ 7) (records_refusal cs w h ds k) _ (λ d. records_most cs w h ds k) (λ e. number_most (checked (used_before cs k) h ds (step_at cs w k)))
+    before_is (λ r. r ≤ 7) (records_refusal cs w h ds k) _ (λ d. records_most cs w h ds k) (λ e. checked_most (used_before cs k) h ds (step_at cs w k))
 
 pub input_refusal_most : (w h : ℕ) (cs ds : List ℕ) → input_refusal w h cs ds ≤ 7
 unfolding input_refusal size_refusal chain_refusal

@@ -2,6 +2,7 @@
 use mathlib.Core.List.{List, [], ◌∷◌, ◌++◌, map}
 use mathlib.Core.Path.{◌≡◌, refl}
 use Prim.Native.Nat.{ℕ}
+use Rattle.format.specs.declared.Refusal.TheVariants.{Size, ChainLength, UnknownKind, KindAgain, NotTabled, WrongLength, BeyondData, ShortBuffer, Outside, MapLength, NoEntry, NoRecord, ColorList, FullCounter}
 use Rattle.format.specs.Byte.{delta}
 use Rattle.format.specs.Pixel.{each, each3}
 use Rattle.format.specs.Picture.{pixels, written, in_order, block, written_bytes}
@@ -10,7 +11,7 @@ use Rattle.format.specs.Color.{transform_color, inverse_color, color_stored, col
 use Rattle.format.specs.SubtractGreen.{green_stored, green_rebuilt}
 use Rattle.format.specs.ColorTable.{per_pixel, index_in, unpacked, lowest, digits, packed}
 use Rattle.format.specs.Chain.{record_at, by_kind, narrowed, width_at}
-use Rattle.format.specs.Refusals.{tabled, tabled_length, checked, records_refusal, size_refusal, chain_refusal, input_refusal}
+use Rattle.format.specs.Refusals.{number, tabled, tabled_length, checked, records_refusal, size_refusal, chain_refusal, input_refusal}
 use Rattle.format.specs.Stages.{forward, backward, stored, rebuilt, takes, accepts}
 use Rattle.format.specs.Calls.{pair_refusal, rebuild_answer, rebuild_image, store_answer, store_strip}
 use Rattle.format.proofs.Worked.{Line, ◌is◌, blacks, zeros, nines, bytes, in_red, reds, record_of, predictor, color, green, table, set}
@@ -30,8 +31,13 @@ damages v cs ds =
 
 abbrev pub worked : List Line
 worked =
+    -- every refusal's number
+    (map number (Size ∷ ChainLength ∷ UnknownKind ∷ KindAgain ∷ NotTabled ∷ WrongLength ∷ BeyondData ∷ [])
+    is 1 ∷ 2 ∷ 3 ∷ 4 ∷ 5 ∷ 6 ∷ 7 ∷ [])
+    ∷ (map number (ShortBuffer ∷ Outside ∷ MapLength ∷ NoEntry ∷ NoRecord ∷ ColorList ∷ FullCounter ∷ [])
+    is 8 ∷ 9 ∷ 10 ∷ 21 ∷ 22 ∷ 23 ∷ 24 ∷ [])
     -- width and height are 1 to 16384: 8 where only the buffer is wanting
-    (refusal 0 1 [] [] ∷ refusal 1 0 [] [] ∷ refusal 16385 1 [] [] ∷ refusal 1 16385 [] [] ∷ [] is 1 ∷ 1 ∷ 1 ∷ 1 ∷ [])
+    ∷ (refusal 0 1 [] [] ∷ refusal 1 0 [] [] ∷ refusal 16385 1 [] [] ∷ refusal 1 16385 [] [] ∷ [] is 1 ∷ 1 ∷ 1 ∷ 1 ∷ [])
     ∷ (refusal 16384 1 [] [] ∷ refusal 1 16384 [] [] ∷ one_by_one [] [] ∷ [] is 8 ∷ 8 ∷ 8 ∷ [])
     -- a chain is 0 to 4 whole records; 1 before 2, 2 before 3
     ∷ (one_by_one (bytes 1) [] ∷ one_by_one (bytes 15) [] ∷ one_by_one (bytes 80) [] ∷ refusal 0 1 (bytes 15) []

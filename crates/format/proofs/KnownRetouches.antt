@@ -7,8 +7,7 @@ use lib.Dec.{eqb}
 use lib.ListN.{take}
 use Rattle.format.specs.Indices.{among, union}
 use Rattle.format.specs.declared.Pixel.{Pixel}
-use Rattle.format.specs.declared.Made.{Made}
-use Rattle.format.specs.declared.Made.TheVariants.{Item, Missing}
+use Rattle.std.specs.Prelude.{Option, Some, None}
 use Rattle.format.specs.Byte.{delta}
 use Rattle.format.specs.Pixel.{pixel, black, each, each3}
 use Rattle.format.specs.Picture.{Picture, pixels, written, in_order, block, written_bytes}
@@ -19,7 +18,7 @@ use Rattle.format.specs.ColorTable.{per_pixel, index_in, unpacked, lowest, digit
 use Rattle.format.specs.Chain.{step_at, record_at, by_kind, narrowed, width_at}
 use Rattle.format.specs.Refusals.{tabled, tabled_length, checked, records_refusal, size_refusal, chain_refusal, input_refusal}
 use Rattle.format.specs.Stages.{forward, backward, stored, rebuilt, takes, accepts}
-use Rattle.format.specs.Made.{made_item, made_number, made, named_by, named, columns, made_of, takes_item, missing}
+use Rattle.format.specs.Made.{made_item, made, named_by, named, columns, made_of, takes_item, missing}
 use Rattle.format.specs.Retouch.{spots_of, spot_records, unmade, remade, new_strip, changes, point_answer}
 use Rattle.format.specs.Calls.{pair_refusal, rebuild_answer, rebuild_image, store_answer, store_strip, retouch_answer, retouch_picture, retouch_strip}
 use Rattle.format.specs.Lists.{Machine, left_by, in_turn, answers_to, accepted_calls}
@@ -103,12 +102,12 @@ held_after n =
 abbrev gap : List ℕ
 gap = in_red (0 ∷ 1 ∷ 9 ∷ 2 ∷ [])
 
-abbrev making : ℕ → Made
+abbrev making : ℕ → Option Pixel
 making r = made_item (step_at (table 5) 4) (reds 5) 1 (pixels gap) r
 
-abbrev item_of : Made → List ℕ
-item_of (Item v) = one v
-item_of Missing = []
+abbrev item_of : Option Pixel → List ℕ
+item_of (Some v) = one v
+item_of None = []
 
 abbrev columns_of : List Retouch → List ℕ
 columns_of cs = map (λ (c : Retouch). c.x) cs
@@ -205,7 +204,6 @@ worked =
     ∷ (naming 10 0 2 is 5 ∷ [])
     ∷ (naming 3 4 1 is 5 ∷ [])
     -- a record that can be made, and one that cannot
-    ∷ (made_number (making 0) ∷ made_number (making 1) ∷ [] is 0 ∷ 22 ∷ [])
     ∷ (item_of (making 0) ++ item_of (making 1) is 0 ∷ 16 ∷ 0 ∷ 255 ∷ [])
     -- 22, the table before the predictor: of the first ten pixels of 5 by 3 these, lacking an entry, refuse a retouch
     -- of the middle one: 8 in a spot's record and, in mode 9, those that a spot's prediction names

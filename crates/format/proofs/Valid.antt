@@ -1,5 +1,5 @@
 -- What refusal 0 gives: a valid chain's sizes and records, and how the refusal of a chain is found record by record.
-use Rattle.std.specs.Prelude.{if◌then◌else◌}
+use Rattle.std.specs.Prelude.{Ok, Err, if◌then◌else◌}
 use mathlib.Core.Bool.{Bool, true, false, not, ◌&&◌}
 use mathlib.Core.List.{List}
 use mathlib.Core.Path.{◌≡◌, refl, sym, ap, ◌∙◌}
@@ -11,11 +11,11 @@ use lib.Dec.{eqb, leb, ltb}
 use lib.ListN.{length}
 use Rattle.format.specs.Choice.{every}
 use Rattle.format.specs.declared.Step.{Step}
-use Rattle.format.specs.declared.Checked.TheVariants.{Taken, UnknownKind, KindAgain, NotTabled, WrongLength, BeyondData}
+use Rattle.format.specs.declared.Refusal.TheVariants.{UnknownKind, KindAgain, NotTabled, WrongLength, BeyondData}
 use Rattle.format.specs.Picture.{byte_at}
 use Rattle.format.specs.Sizes.{Sized}
 use Rattle.format.specs.Chain.{by_kind, record_at, narrowed, width_at, step_at, count}
-use Rattle.format.specs.Refusals.{used_before, blocks_tabled, green_tabled, table_tabled, tabled, block_bytes, tabled_length, checked, number, ◌unless◌, ◌before◌, records_refusal, in_range, whole_records, size_refusal, chain_refusal, input_refusal}
+use Rattle.format.specs.Refusals.{used_before, blocks_tabled, green_tabled, table_tabled, tabled, block_bytes, tabled_length, checked, returned, ◌unless◌, ◌before◌, records_refusal, in_range, whole_records, size_refusal, chain_refusal, input_refusal}
 use Rattle.format.specs.ValidStep.{ValidBlocks, ValidTable, ValidStep}
 use Rattle.format.proofs.Choice.{and_left, and_right, every_at}
 use Rattle.format.proofs.ByKind.{by_kind_blocks, by_kind_3}
@@ -51,12 +51,12 @@ pub record Passed (again : Bool) (h : ℕ) (ds : List ℕ) (s : Step) : Type 0 w
   pub inside : ltb (length ds) (s.offset + s.length) ≡ false
 
 module _ (again : Bool) (h : ℕ) (ds : List ℕ) (s : Step) where
-  pub passed : number (checked again h ds s) ≡ 0 → Passed again h ds s
+  pub passed : returned (checked again h ds s) ≡ 0 → Passed again h ds s
   unfolding checked
   passed = go (ltb 3 s.kind) again (tabled s) (eqb s.length (tabled_length s h)) (ltb (length ds) (s.offset + s.length)) refl refl refl refl refl
     where
       go : (a b c d e : Bool) → ltb 3 s.kind ≡ a → again ≡ b → tabled s ≡ c → eqb s.length (tabled_length s h) ≡ d → ltb (length ds) (s.offset + s.length) ≡ e
-          → number (if a then UnknownKind else (if b then KindAgain else (if not c then NotTabled else (if not d then WrongLength else (if e then BeyondData else Taken s))))) ≡ 0
+          → returned (if a then Err UnknownKind else (if b then Err KindAgain else (if not c then Err NotTabled else (if not d then Err WrongLength else (if e then Err BeyondData else Ok s))))) ≡ 0
           → Passed again h ds s
       go true b c d e p q r t u z = absurd (omega arith)
       go false true c d e p q r t u z = absurd (omega arith)
@@ -110,11 +110,11 @@ module _ (cs : List ℕ) (w h : ℕ) (ds : List ℕ) where
   unfolding records_refusal
   records_refused k m = before_some (records_refusal cs w h ds k) _ m
 
-  pub records_next : (k : ℕ) → records_refusal cs w h ds k ≡ 0 → records_refusal cs w h ds (suc k) ≡ number (checked (used_before cs k) h ds (step_at cs w k))
+  pub records_next : (k : ℕ) → records_refusal cs w h ds k ≡ 0 → records_refusal cs w h ds (suc k) ≡ returned (checked (used_before cs k) h ds (step_at cs w k))
   unfolding records_refusal
   records_next k e = before_none (records_refusal cs w h ds k) _ e
 
-  records_zero : (k : ℕ) → records_refusal cs w h ds (suc k) ≡ 0 → (records_refusal cs w h ds k ≡ 0) × (number (checked (used_before cs k) h ds (step_at cs w k)) ≡ 0)
+  records_zero : (k : ℕ) → records_refusal cs w h ds (suc k) ≡ 0 → (records_refusal cs w h ds k ≡ 0) × (returned (checked (used_before cs k) h ds (step_at cs w k)) ≡ 0)
   unfolding records_refusal
   records_zero k e = before_zero (records_refusal cs w h ds k) _ e
 

@@ -2,9 +2,10 @@
 -- refusal changes no byte.
 use Rattle.std.specs.Prelude.{Bool, ◌&&◌, List, [], ◌∷◌, ℕ, ◌+◌, ◌*◌, leb, ltb, length, if◌then◌else◌}
 use Rattle.format.specs.declared.Pixel.{Pixel}
+use Rattle.format.specs.declared.Refusal.TheVariants.{ShortBuffer, Outside, NoEntry}
 use Rattle.format.specs.Picture.{Picture, pixels, written, paint}
 use Rattle.format.specs.Chain.{count, width_at, step_at}
-use Rattle.format.specs.Refusals.{input_refusal, accepted, ◌before◌, ◌unless◌}
+use Rattle.format.specs.Refusals.{number, input_refusal, accepted, ◌before◌, ◌unless◌}
 use Rattle.format.specs.Stages.{stored, rebuilt, accepts}
 use Rattle.format.specs.Retouch.{spot_records, new_strip, point_answer}
 
@@ -42,11 +43,11 @@ module _ (w h : ℕ) (cs ds : List ℕ) where
   -- refusals 1 to 8 where a picture and its strip are lent
   unfoldable pub pair_refusal : List ℕ → List ℕ → ℕ
   pair_refusal picture strip =
-      input_refusal w h cs ds before (8 unless (holds picture (h * w) && holds strip (records w h cs)))
+      input_refusal w h cs ds before (number ShortBuffer unless (holds picture (h * w) && holds strip (records w h cs)))
 
   -- rebuilding, in one buffer whose front holds the strip
   unfoldable pub rebuild_answer : List ℕ → ℕ
-  rebuild_answer image = input_refusal w h cs ds before (8 unless holds image (h * w))
+  rebuild_answer image = input_refusal w h cs ds before (number ShortBuffer unless holds image (h * w))
 
   unfoldable pub rebuild_image : List ℕ → List ℕ
   rebuild_image image =
@@ -54,7 +55,7 @@ module _ (w h : ℕ) (cs ds : List ℕ) where
 
   -- storing, from the picture into the strip
   unfoldable pub store_answer : List ℕ → List ℕ → ℕ
-  store_answer picture strip = pair_refusal picture strip before (21 unless storable (pixels picture))
+  store_answer picture strip = pair_refusal picture strip before (number NoEntry unless storable (pixels picture))
 
   unfoldable pub store_strip : List ℕ → List ℕ → List ℕ
   store_strip picture strip =
@@ -71,7 +72,7 @@ module _ (w h : ℕ) (cs ds : List ℕ) where
     unfoldable pub retouch_answer : ℕ
     retouch_answer =
         pair_refusal picture strip
-        before (9 unless inside w h x y)
+        before (number Outside unless inside w h x y)
         before point_answer (step_at cs w) ds (count cs) (records w h cs) retouched (y * w + x) (pixels strip)
 
     unfoldable pub retouch_picture : List ℕ

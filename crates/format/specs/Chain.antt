@@ -2,6 +2,8 @@
 -- width.
 use Rattle.std.specs.Prelude.{List, ℕ, zero, suc, ◌+◌, ◌*◌, ◌/◌, eqb, length, if◌then◌else◌}
 use Rattle.format.specs.declared.Step.{Step}
+use Rattle.format.specs.declared.TransformType.{TransformType}
+use Rattle.format.specs.declared.TransformType.TheVariants.{Predictor, Color, SubtractGreen, ColorTable}
 use Rattle.format.specs.Picture.{byte_at}
 use Rattle.format.specs.ColorTable.{packed_width}
 
@@ -23,6 +25,13 @@ record_at cs k x = record {
   zero = le32 cs (16 * k + 12);
   width = x;
 }
+
+-- the kind of a transform
+abbrev pub kind_of : TransformType → ℕ
+kind_of Predictor = 0
+kind_of Color = 1
+kind_of SubtractGreen = 2
+kind_of ColorTable = 3
 
 -- a choice by kind: 0 predictor, 1 color, 2 subtract green, 3 color table
 unfoldable pub by_kind : {A : Type 0} → ℕ → A → A → A → A → A

@@ -1,5 +1,7 @@
 -- The color map, which the file stores as differences of entries (document 01, module 7), and its two calls.
 use Rattle.std.specs.Prelude.{Bool, not, ◌||◌, List, ℕ, zero, suc, ◌+◌, ◌-◌, ◌%◌, eqb, ltb, length, if◌then◌else◌}
+use Rattle.format.specs.declared.Refusal.TheVariants.{MapLength}
+use Rattle.format.specs.Refusals.{number}
 use Rattle.format.specs.Byte.{add, sub}
 use Rattle.format.specs.Picture.{byte_at, written_bytes}
 
@@ -21,7 +23,7 @@ refused n = eqb n 0 || (ltb 1024 n || not (eqb (n % 4) 0))
 
 -- what both calls return
 unfoldable pub color_map_answer : List ℕ → ℕ
-color_map_answer xs = if refused (length xs) then 10 else 0
+color_map_answer xs = if refused (length xs) then number MapLength else 0
 
 -- the bytes that each leaves: a refusal changes none
 unfoldable pub adjust_color_map : List ℕ → List ℕ

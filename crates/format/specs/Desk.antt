@@ -2,10 +2,9 @@
 use Rattle.std.specs.Prelude.{Bool, List, [], ℕ, if◌then◌else◌}
 use Rattle.format.specs.Indices.{how_many}
 use Rattle.format.specs.declared.Pixel.{Pixel}
-use Rattle.format.specs.declared.Made.TheVariants.{Missing}
+use Rattle.format.specs.declared.Refusal.TheVariants.{Outside, NoRecord}
 use Rattle.format.specs.Picture.{Picture}
-use Rattle.format.specs.Refusals.{◌before◌, ◌unless◌, accepted}
-use Rattle.format.specs.Made.{made_number}
+use Rattle.format.specs.Refusals.{number, ◌before◌, ◌unless◌, accepted}
 use Rattle.format.specs.Lists.{Machine}
 use Rattle.format.specs.Retouch.{differ, marks, mask_of, answer}
 use Rattle.format.specs.Calls.{records, strip_of, storable, inside, painted, touched, retouch_answer, retouch_picture, retouch_strip}
@@ -33,8 +32,8 @@ module _ (w h : ℕ) (cs ds : List ℕ) where
 
     unfoldable pub desk_answer : ℕ
     desk_answer =
-        (9 unless inside w h c.x c.y)
-        before (made_number Missing unless storable w h cs ds (painted_by w f c))
+        (number Outside unless inside w h c.x c.y)
+        before (number NoRecord unless storable w h cs ds (painted_by w f c))
         before answer (how_many (records w h cs) differing) (mask_of (marks differing [] (touched w cs c.x c.y)))
 
     unfoldable pub desk_holds : Picture

@@ -1,11 +1,12 @@
 -- Strips stored earlier (document 02, ii): what storing returned and left by document 01's rule, that unused high bits
 -- of a row's last record are zero. No call makes them; promises are about them.
 use Rattle.std.specs.Prelude.{Bool, true, ◌&&◌, List, ℕ, zero, suc, ◌+◌, ◌*◌, ◌/◌, ◌%◌, eqb, ltb, if◌then◌else◌}
+use Rattle.format.specs.declared.Refusal.TheVariants.{NoEntry}
 use Rattle.format.specs.declared.Step.{Step}
 use Rattle.format.specs.Picture.{Picture, pixels, written}
 use Rattle.format.specs.ColorTable.{packed_width, index_of, packed_at}
 use Rattle.format.specs.Chain.{count, step_at}
-use Rattle.format.specs.Refusals.{accepted, ◌before◌, ◌unless◌}
+use Rattle.format.specs.Refusals.{number, accepted, ◌before◌, ◌unless◌}
 use Rattle.format.specs.Stages.{part_of, forward, takes}
 use Rattle.format.specs.Calls.{records, pair_refusal}
 
@@ -36,7 +37,7 @@ module _ (w h : ℕ) (cs ds picture strip : List ℕ) where
   unfoldable pub earlier_answer : ℕ
   earlier_answer =
       pair_refusal w h cs ds picture strip
-      before (21 unless earlier_accepts (step_at cs w) h ds (count cs) (pixels picture))
+      before (number NoEntry unless earlier_accepts (step_at cs w) h ds (count cs) (pixels picture))
 
   unfoldable pub earlier_strip : List ℕ
   earlier_strip =

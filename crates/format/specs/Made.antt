@@ -1,11 +1,9 @@
 -- What the items of a stage are made of, and when one cannot be made (document 01, refusal 22). An item is a pixel of a
 -- picture or a record of a strip.
-use Rattle.std.specs.Prelude.{Bool, true, false, not, ◌||◌, List, [], ◌∷◌, ℕ, zero, suc, ◌+◌, ◌*◌, ◌/◌, ◌%◌, eqb, ltb, get_or, if◌then◌else◌}
+use Rattle.std.specs.Prelude.{Option, Some, None, Bool, true, false, not, ◌||◌, List, [], ◌∷◌, ℕ, zero, suc, ◌+◌, ◌*◌, ◌/◌, ◌%◌, eqb, ltb, get_or, if◌then◌else◌}
 use Rattle.format.specs.Indices.{some}
 use Rattle.format.specs.declared.Pixel.{Pixel}
 use Rattle.format.specs.declared.Step.{Step}
-use Rattle.format.specs.declared.Made.{Made}
-use Rattle.format.specs.declared.Made.TheVariants.{Item, Missing}
 use Rattle.format.specs.Picture.{Picture}
 use Rattle.format.specs.Predictor.{index, left, top, top_right, top_left, mode}
 use Rattle.format.specs.ColorTable.{per_pixel, packed_width, has_entry}
@@ -71,15 +69,10 @@ abbrev pub lost : (ℕ → Step) → List ℕ → ℕ → Picture → ℕ → Bo
 lost steps ds k f q = missing steps ds k f q || not (takes_item (steps k) ds (stored steps ds k f q))
 
 -- the item v, unless it is missing
-unfoldable pub made : Bool → Pixel → Made
-made true v = Missing
-made false v = Item v
+unfoldable pub made : Bool → Pixel → Option Pixel
+made true v = None
+made false v = Some v
 
 -- what making item r after the first k records of the picture f gives
-abbrev pub made_item : (ℕ → Step) → List ℕ → ℕ → Picture → ℕ → Made
+abbrev pub made_item : (ℕ → Step) → List ℕ → ℕ → Picture → ℕ → Option Pixel
 made_item steps ds k f r = made (missing steps ds k f r) (stored steps ds k f r)
-
--- document 01's number for what making an item gives; 0 is no refusal
-abbrev pub made_number : Made → ℕ
-made_number (Item v) = 0
-made_number Missing = 22

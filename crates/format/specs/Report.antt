@@ -1,6 +1,7 @@
 -- The report (document 02, i): how many pixels of each color the pictures of a shipment have. The list of colors has
 -- four bytes for each; the counters are one number of eight bytes for each color, then one for all other colors.
 use Rattle.std.specs.Prelude.{Bool, not, ◌&&◌, List, ℕ, zero, suc, ◌+◌, ◌*◌, ◌/◌, ◌%◌, ◌^◌, leb, ltb, length, if◌then◌else◌}
+use Rattle.format.specs.declared.Refusal.TheVariants.{ShortBuffer, ColorList, FullCounter}
 use Rattle.format.specs.Choice.{every}
 use Rattle.format.specs.Indices.{how_many}
 use Rattle.format.specs.declared.Pixel.{Pixel}
@@ -8,7 +9,7 @@ use Rattle.format.specs.Pixel.{equal}
 use Rattle.format.specs.Picture.{Picture, pixels, written_bytes}
 use Rattle.format.specs.ColorMap.{refused}
 use Rattle.format.specs.Chain.{le32}
-use Rattle.format.specs.Refusals.{size_refusal, accepted, ◌before◌, ◌unless◌}
+use Rattle.format.specs.Refusals.{number, size_refusal, accepted, ◌before◌, ◌unless◌}
 use Rattle.format.specs.Calls.{holds}
 use Rattle.format.specs.Lists.{Machine}
 
@@ -68,9 +69,9 @@ module _ (w h : ℕ) (picture colors counters : List ℕ) where
   unfoldable pub report_answer : ℕ
   report_answer =
       size_refusal w h
-      before (23 unless color_list colors)
-      before (8 unless (holds_counters counters (counter_count colors) && holds picture (h * w)))
-      before (24 unless every (counter_count colors) (λ k. ltb (grown k) (2 ^ 64)))
+      before (number ColorList unless color_list colors)
+      before (number ShortBuffer unless (holds_counters counters (counter_count colors) && holds picture (h * w)))
+      before (number FullCounter unless every (counter_count colors) (λ k. ltb (grown k) (2 ^ 64)))
 
   unfoldable pub report_counters : List ℕ
   report_counters = if accepted report_answer then written_counters (counter_count colors) grown counters else counters

@@ -3,13 +3,13 @@ use Rattle.std.specs.Prelude.{Bool, not, ◌&&◌, List, [], ◌∷◌, ℕ, zer
 use Rattle.format.specs.Choice.{bit}
 use Rattle.format.specs.Indices.{some, among, union}
 use Rattle.format.specs.declared.Step.{Step}
-use Rattle.format.specs.declared.Made.TheVariants.{Missing}
+use Rattle.format.specs.declared.Refusal.TheVariants.{NoRecord}
 use Rattle.format.specs.Pixel.{equal}
 use Rattle.format.specs.Picture.{Picture}
 use Rattle.format.specs.ColorTable.{per_pixel, packed_width}
-use Rattle.format.specs.Refusals.{◌before◌, ◌unless◌}
+use Rattle.format.specs.Refusals.{number, ◌before◌, ◌unless◌}
 use Rattle.format.specs.Stages.{stored}
-use Rattle.format.specs.Made.{missing, made_number}
+use Rattle.format.specs.Made.{missing}
 
 -- the five spots of item p in a stage of w columns, in order
 abbrev pub five_spots : ℕ → ℕ → List ℕ
@@ -79,5 +79,5 @@ module _ (steps : ℕ → Step) (ds : List ℕ) (k : ℕ) where
     -- of one pixel p: 22, or which records changed and how many
     unfoldable pub point_answer : ℕ → Picture → ℕ
     point_answer p strip =
-        (made_number Missing unless not (unmade n f (spot_records steps k (p ∷ []))))
+        (number NoRecord unless not (unmade n f (spot_records steps k (p ∷ []))))
         before answer (ones (changes (p ∷ []) strip)) (mask_of (changes (p ∷ []) strip))

@@ -2,8 +2,12 @@
 // share.
 #![tactic(auto)]
 
+ghost use Rattle.std.specs.Prelude.{◌≡◌, ◌≤◌};
+ghost use Rattle.format.specs.Chain.{kind_of};
+ghost use Rattle.format.specs.Refusals.{number};
+
 // A pixel by value.
-#[derive(Clone, Copy)]
+#[derive(Clone, Copy, PartialEq, Eq)]
 pub struct Pixel {
     pub red: u8,
     pub green: u8,
@@ -23,25 +27,67 @@ pub struct Step {
     pub width: usize,
 }
 
-// What the check of a record finds.
-#[derive(Clone, Copy)]
-pub enum Checked {
-    Taken(Step),
-    // Kind over 3.
-    UnknownKind,
-    // Kind used before.
-    KindAgain,
-    // Bits, size, offset or a zero byte not as tabled.
-    NotTabled,
-    // Length not as tabled.
-    WrongLength,
-    // Offset + length beyond the data.
-    BeyondData,
+// What a record's kind stands for.
+#[derive(Clone, Copy, PartialEq, Eq)]
+pub enum TransformType {
+    Predictor = 0,
+    Color = 1,
+    SubtractGreen = 2,
+    ColorTable = 3,
 }
 
-// What making an item of a stage gives: the item, or none where a pixel without entry reaches the table in it.
-#[derive(Clone, Copy)]
-pub enum Made {
-    Item(Pixel),
-    Missing,
+impl Step {
+    // Of a record whose kind is not refused.
+    pub fn transform_type(&self) -> TransformType
+        requires { self.now.kind ≤ 3 }
+        ensures { self.now.kind ≡ kind_of result }
+    {
+        match self.kind {
+            0 => TransformType::Predictor,
+            1 => TransformType::Color,
+            2 => TransformType::SubtractGreen,
+            _ => TransformType::ColorTable,
+        }
+    }
+}
+
+// Why a call refuses, with the papers' number.
+#[derive(Clone, Copy, PartialEq, Eq)]
+pub enum Refusal {
+    // Width or height is not 1 to 16384.
+    Size = 1,
+    // The chain's length is not a multiple of 16, or over 64.
+    ChainLength = 2,
+    // A record's kind is over 3.
+    UnknownKind = 3,
+    // Its kind was used before.
+    KindAgain = 4,
+    // Its bits, size, offset or a zero byte are not as tabled.
+    NotTabled = 5,
+    // Its length is not as tabled.
+    WrongLength = 6,
+    // Its part goes beyond the data.
+    BeyondData = 7,
+    // A buffer is too short.
+    ShortBuffer = 8,
+    // The point to be painted is outside.
+    Outside = 9,
+    // A color map's length is 0, over 1024 or not a multiple of 4.
+    MapLength = 10,
+    // A pixel that reaches the table has no entry.
+    NoEntry = 21,
+    // The same, in a record that the painted point reaches.
+    NoRecord = 22,
+    // A list of colors has a color twice, or not 4 to 1024 bytes in fours.
+    ColorList = 23,
+    // A counter would pass 2^64 - 1.
+    FullCounter = 24,
+}
+
+impl From<Refusal> for u32 {
+    ghost from_gives = { λ refusal n. n ≡ number refusal };
+
+    fn from(refusal: Refusal) -> u32 {
+        refusal as u32
+    }
 }

@@ -1,7 +1,7 @@
 -- What an item after record k asks of the stage before it.
 use mathlib.Core.List.{List}
 use mathlib.Core.Path.{◌≡◌, sym, subst}
-use Prim.Native.Nat.{ℕ, suc, ◌-◌, ◌+◌, ◌*◌, ◌/◌, ◌%◌, ◌<◌, ◌≤◌}
+use Prim.Native.Nat.{ℕ, suc, ◌-◌, ◌*◌, ◌/◌, ◌%◌, ◌<◌, ◌≤◌}
 use native.Mathlib.Nat.{mod-lt}
 use native.Mathlib.Omega.{arith}
 use lib.ListN.{length}
@@ -13,11 +13,12 @@ use Rattle.format.proofs.ColorTable.{per_pixel_pos, first_inside}
 use Rattle.format.proofs.ByKind.{narrowed_table, narrowed_other}
 use Rattle.format.proofs.Stages.{narrowed_pos}
 use Rattle.chain.specs.declared.Chain.{Chain}
-use Rattle.chain.specs.Valid.{Valid, HoldsPicture, steps_of}
+use Rattle.chain.specs.Valid.{Valid, steps_of}
 use Rattle.chain.proofs.Valid.{step_sized}
 use Rattle.item.specs.Neighbors.{BlockAt}
-use Rattle.item.specs.declared.Point.{Point}
-use Rattle.item.specs.Source.{shown, items_after}
+use Rattle.item.specs.declared.painted.Point.{Point}
+use Rattle.item.specs.declared.place.Place.{Place}
+use Rattle.item.specs.Source.{shown, items_after, Stands}
 use Rattle.item.proofs.Inside.{column_inside, row_inside}
 
 -- the point's pixel is its color, and the others are as they were
@@ -26,10 +27,6 @@ shown_here picture p q e = rw e (sym (paint_at (pixels picture) p.index p.color)
 
 pub shown_off : (picture : List ℕ) (p : Point) (q : ℕ) → (q ≡ p.index → ⊥) → pixels picture q ≡ shown picture p q
 shown_off picture p q d = sym (paint_other (pixels picture) p.index p.color q d)
-
--- a pixel of the picture is in its buffer
-pub picture_room : (c : Chain) (k q : ℕ) (xs : List ℕ) → k ≡ 0 → HoldsPicture c xs → q < items_after c k → 4 * q + 4 ≤ length xs
-picture_room c k q xs z room l = let i : q < c.height * c.width.0 = rw z at l in omega arith
 
 -- the record that the code counts to
 pub counted : (n k : ℕ) → (k ≡ 0 → ⊥) → k ≤ n → k - 1 < n
@@ -51,12 +48,12 @@ module _ (c : Chain) (ds : List ℕ) (v : Valid c ds) (k : ℕ) (u : k < c.count
 
   -- the place of item q
   module _ (q x y : ℕ) (l : q < c.height * (steps_of c k).width) (a : x ≡ q % (steps_of c k).width) (b : y ≡ q / (steps_of c k).width) where
-    pub place_here : (x < (steps_of c k).width) × (y < c.height)
-    place_here =
-        (rw a (column_inside (steps_of c k).width q sized_here.wide), rw b (row_inside (steps_of c k).width q sized_here.wide c.height l))
-
-    pub block_here : (steps_of c k).kind ≤ 1 → BlockAt (steps_of c k) c.height (length ds) x y
-    block_here m = record { valid = v.step k u; blocks = m; narrow = sized_here.narrow; column = place_here.0; row = place_here.1 }
+    pub stands_here : Stands c k (record { x = x; y = y })
+    stands_here = record {
+      step = u;
+      column = rw a (column_inside (steps_of c k).width q sized_here.wide);
+      row = rw b (row_inside (steps_of c k).width q sized_here.wide c.height l);
+    }
 
   -- a table's row of p records
   module _ (p : ℕ) (table : (steps_of c k).kind ≡ 3) (row : p ≡ packed_width (steps_of c k).size (steps_of c k).width) where
@@ -69,3 +66,7 @@ module _ (c : Chain) (ds : List ℕ) (v : Valid c ds) (k : ℕ) (u : k < c.count
     -- a record's first position is a column
     pub records_column : (q x n : ℕ) → x ≡ q % p → n ≡ per_pixel (steps_of c k).size → x * n < (steps_of c k).width
     records_column q x n e m = rw m (first_inside (steps_of c k).width (per_pixel (steps_of c k).size) x (per_pixel_pos (steps_of c k).size) (omega (arith, mod-lt q records_some, row)))
+
+-- a place of a record that has blocks
+pub block_here : (c : Chain) (ds : List ℕ) → Valid c ds → (k : ℕ) (at : Place) → Stands c k at → (steps_of c k).kind ≤ 1 → BlockAt (steps_of c k) c.height (length ds) at.x at.y
+block_here c ds v k at s m = record { valid = v.step k s.step; blocks = m; narrow = (step_sized c ds v k s.step).narrow; column = s.column; row = s.row }

@@ -1,5 +1,5 @@
 -- A record of indices, position by position.
-use Rattle.std.specs.Prelude.{if◌then◌else◌}
+use Rattle.std.specs.Prelude.{Option, Some, None, option_and_then, option_map, if◌then◌else◌}
 use mathlib.Core.Bool.{Bool, true, false, not, ◌||◌, or-false}
 use mathlib.Core.List.{[], ◌∷◌}
 use mathlib.Core.Path.{◌≡◌, refl, sym, ap, ◌∙◌}
@@ -15,58 +15,46 @@ use Rattle.format.specs.Picture.{Picture}
 use Rattle.format.specs.ColorTable.{per_pixel, range, index_of, has_entry, index_at, digits}
 use Rattle.format.specs.Made.{columns, made}
 use Rattle.format.proofs.ColorTable.{digits_same, digits_below, index_inside, index_last}
-use Rattle.color_table.specs.Pack.{uniform}
 use Rattle.color_table.proofs.Digits.{base_of, small_more, weight_small}
-use Rattle.format.specs.declared.Made.{Made}
-use Rattle.format.specs.declared.Made.TheVariants.{Item, Missing}
-use Rattle.item.specs.Made.{when_made}
+use Rattle.color_table.specs.Found.{found}
+use Rattle.color_table.proofs.Index.{has_found}
 use Rattle.item.specs.Table.{record_from, joined_made, repeated_made, Room}
-use Rattle.item.proofs.WhenMade.{made-item}
+use Rattle.item.proofs.Items.{made-item}
 
 -- a column and those after it
 joined-made : (size : ℕ) (e : Picture) (a b : Bool) (v p : Pixel)
     → joined_made size e (made a v) (made b p) ≡ made ((a || not (has_entry size e v)) || b) (pixel 0 (index_of size e v + range (per_pixel size) * p.green) 0 255)
-unfolding joined_made when_made made
+unfolding joined_made found made
 joined-made size e true b v p = refl
-joined-made size e false true v p = go (has_entry size e v)
+joined-made size e false b v p = go b (has_entry size e v)
   where
-    go : (h : Bool) → Missing ≡ made (not h || true) (pixel 0 (index_of size e v + range (per_pixel size) * p.green) 0 255)
-    go true = refl
-    go false = refl
-joined-made size e false false v p = go (has_entry size e v)
-  where
-    go : (h : Bool) → (if h then Item (pixel 0 (index_of size e v + range (per_pixel size) * p.green) 0 255) else Missing) ≡ made (not h || false) (pixel 0 (index_of size e v + range (per_pixel size) * p.green) 0 255)
-    go true = refl
-    go false = refl
+    go : (b h : Bool) → option_and_then (λ p. option_map (λ i. pixel 0 (i + range (per_pixel size) * p.green) 0 255) (if h then Some (index_of size e v) else None)) (made b p) ≡ made (not h || b) (pixel 0 (index_of size e v + range (per_pixel size) * p.green) 0 255)
+    go true true = refl
+    go true false = refl
+    go false true = refl
+    go false false = refl
 
 -- one item's index in every position
 repeated-made : (size : ℕ) (e : Picture) (n : ℕ) (a : Bool) (v : Pixel)
-    → repeated_made size e n (made a v) ≡ made (a || not (has_entry size e v)) (uniform (range (per_pixel size)) n size e v)
-unfolding repeated_made when_made made
+    → repeated_made size e n (made a v) ≡ made (a || not (has_entry size e v)) (pixel 0 (digits (range (per_pixel size)) n (λ k. index_of size e v)) 0 255)
+unfolding repeated_made found made
 repeated-made size e n true v = refl
 repeated-made size e n false v = go (has_entry size e v)
   where
-    go : (h : Bool) → (if h then Item (uniform (range (per_pixel size)) n size e v) else Missing) ≡ made (not h) (uniform (range (per_pixel size)) n size e v)
+    go : (h : Bool) → option_map (λ i. pixel 0 (digits (range (per_pixel size)) n (λ k. i)) 0 255) (if h then Some (index_of size e v) else None) ≡ made (not h) (pixel 0 (digits (range (per_pixel size)) n (λ k. index_of size e v)) 0 255)
     go true = refl
     go false = refl
 
-module _ (size : ℕ) (e : Picture) (n : ℕ) (m : Made) (v : Pixel) (i : ℕ) where
-  pub repeated_missing : m ≡ Item v → i ≡ index_of size e v → size ≤ i → Missing ≡ repeated_made size e n m
-  unfolding repeated_made when_made
-  repeated_missing a q l = rw (a, le-ltb (index_of size e v) size (rw (← q) l))
+pub repeated_item : (size : ℕ) (e : Picture) (n : ℕ) (m : Option Pixel) (v r : Pixel) (i b w : ℕ) → m ≡ Some v → Some i ≡ found size e v → r ≡ pixel 0 b 0 255
+    → b ≡ digits w n (λ k. i) → w ≡ range (per_pixel size) → Some r ≡ repeated_made size e n m
+unfolding repeated_made
+repeated_item size e n m v r i b w a q c z d = rw (a, ← q, c, z, d) refl
 
-  pub repeated_item : (r : Pixel) (w b : ℕ) → m ≡ Item v → i ≡ index_of size e v → i < size → w ≡ range (per_pixel size) → r ≡ pixel 0 b 0 255 → b ≡ digits w n (λ k. i) → Item r ≡ repeated_made size e n m
-  unfolding repeated_made when_made uniform
-  repeated_item r w b a q l d c z = rw (a, lt-ltb (index_of size e v) size (rw (← q) l), c, z, q, d)
-
-module _ (size : ℕ) (e : Picture) (first rest : Made) (v p : Pixel) (i : ℕ) where
-  pub joined_missing : first ≡ Item v → rest ≡ Item p → i ≡ index_of size e v → size ≤ i → Missing ≡ joined_made size e first rest
-  unfolding joined_made when_made
-  joined_missing a b q l = rw (a, b, le-ltb (index_of size e v) size (rw (← q) l))
-
-  pub joined_item : (r : Pixel) (w : ℕ) → first ≡ Item v → rest ≡ Item p → i ≡ index_of size e v → i < size → w ≡ range (per_pixel size) → r ≡ pixel 0 (i + w * p.green) 0 255 → Item r ≡ joined_made size e first rest
-  unfolding joined_made when_made
-  joined_item r w a b q l d c = rw (a, b, lt-ltb (index_of size e v) size (rw (← q) l), c, q, d)
+-- an index that is found is that of an entry
+pub found_inside : (size : ℕ) (e : Picture) (v : Pixel) (i : ℕ) → Some i ≡ found size e v → i < size
+found_inside size e v i q =
+    let h = has_found size e v i q in
+    rw h.0 (ltb-true (index_of size e v) size h.1)
 
 -- the same index once more
 pub again_more : (u i k b : ℕ) → b ≡ digits u k (λ j. i) → i + u * b ≡ digits u (k + 1) (λ j. i)
@@ -132,13 +120,13 @@ module _ (w size : ℕ) (e f : Picture) (y : ℕ) where
 
   module _ (t : ℕ → Bool) where
     -- no position
-    pub no-columns : (n x : ℕ) (p : Pixel) → n ≡ 0 → p ≡ pixel 0 0 0 255 → Item p ≡ made (some t (columns w y n x)) (record_from w size e f y n x)
+    pub no-columns : (n x : ℕ) (p : Pixel) → n ≡ 0 → p ≡ pixel 0 0 0 255 → Some p ≡ made (some t (columns w y n x)) (record_from w size e f y n x)
     unfolding made record_from columns digits
     no-columns n x p z q = rw (z, q)
 
     module _ (was : ℕ → Bool) (lacking : (q : ℕ) → t q ≡ (was q || not (has_entry size e (f q)))) where
       -- one column more
-      pub columns_more : (n m x : ℕ) (r first rest : Made) → n ≡ suc m → x < w → r ≡ joined_made size e first rest → first ≡ made (was (y * w + x)) (f (y * w + x))
+      pub columns_more : (n m x : ℕ) (r first rest : Option Pixel) → n ≡ suc m → x < w → r ≡ joined_made size e first rest → first ≡ made (was (y * w + x)) (f (y * w + x))
           → rest ≡ made (some t (columns w y m (x + 1))) (record_from w size e f y m (x + 1)) → r ≡ made (some t (columns w y n x)) (record_from w size e f y n x)
       unfolding record_from
       columns_more n m x r first rest z l a b c =
@@ -148,9 +136,9 @@ module _ (w size : ℕ) (e f : Picture) (y : ℕ) where
           ∙ rw (z, columns_here m x l, byte_more m x, index_inside w size e f y x l, lacking (y * w + x)))
 
       -- the row's last column
-      pub columns_last : (n m x : ℕ) (r first : Made) → n ≡ suc m → w ≡ x + 1 → r ≡ repeated_made size e n first → first ≡ made (was (y * w + x)) (f (y * w + x))
+      pub columns_last : (n m x : ℕ) (r first : Option Pixel) → n ≡ suc m → w ≡ x + 1 → r ≡ repeated_made size e n first → first ≡ made (was (y * w + x)) (f (y * w + x))
           → r ≡ made (some t (columns w y n x)) (record_from w size e f y n x)
-      unfolding record_from uniform
+      unfolding record_from
       columns_last n m x r first z l a b =
           a
           ∙ rw b (repeated-made size e n (was (y * w + x)) (f (y * w + x)) ∙ rw (z, columns_here m x (omega arith), columns_past m (x + 1) (omega arith), byte_last (suc m) x l, lacking (y * w + x), or-false))

@@ -1,10 +1,9 @@
 -- Data pixels in the part of the data that a record names.
 use mathlib.Core.List.{List}
-use mathlib.Core.Path.{◌≡◌, ap, ◌∙◌}
+use mathlib.Core.Path.{◌≡◌}
 use Prim.Native.Nat.{ℕ, ◌+◌, ◌*◌, ◌/◌, ◌^◌, ◌≤◌}
 use native.Mathlib.Omega.{arith}
-use lib.ListN.{length, drop, length-drop}
-use lib.Seq.{length-take-le}
+use lib.ListN.{length}
 use Rattle.format.specs.declared.Pixel.{Pixel}
 use Rattle.format.specs.declared.Step.{Step}
 use Rattle.format.specs.Picture.{pixels, block, ceiling}
@@ -12,7 +11,6 @@ use Rattle.format.specs.Stages.{data_of}
 use Rattle.pixel.proofs.Blocks.{block_there, blocks_there}
 use Rattle.chain.proofs.Parts.{part_length}
 use Rattle.item.specs.Neighbors.{BlockAt, block_of}
-use Rattle.item.specs.Table.{EntriesIn}
 
 -- a block, where b is the number of blocks in a row
 module _ (s : Step) (h : ℕ) (ds : List ℕ) (x y b : ℕ) (e : b ≡ ceiling s.width (2 ^ s.bits)) where
@@ -30,11 +28,3 @@ module _ (s : Step) (h : ℕ) (ds : List ℕ) (x y b : ℕ) (e : b ≡ ceiling s
   pub block_at : (v : Pixel) (part : List ℕ) → part ≡ data_of s ds → v ≡ pixels part at → v ≡ block_of s ds x y
   unfolding block
   block_at v part q p = rw (q, e) at p
-
--- a table's entries
-pub entries_room : (s : Step) (ds part : List ℕ) → EntriesIn s (length ds) → part ≡ data_of s ds → 4 * s.size ≤ length part
-entries_room s ds part i q =
-    let l = i.inside in
-    let n = i.table.long in
-    let e = ap length q ∙ length-take-le s.length (drop s.offset ds) (rw (length-drop s.offset ds) (omega arith)) in
-    omega arith

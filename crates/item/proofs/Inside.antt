@@ -2,12 +2,14 @@
 use Rattle.std.specs.Prelude.{if◌then◌else◌}
 use mathlib.Core.Bool.{Bool, true, false}
 use mathlib.Core.Path.{◌≡◌, refl}
-use Prim.Native.Nat.{ℕ, zero, suc, ◌+◌, ◌-◌, ◌*◌, ◌/◌, ◌%◌, ◌<◌, ◌≤◌}
+use Prim.Native.Nat.{ℕ, ◌+◌, ◌-◌, ◌*◌, ◌/◌, ◌%◌, ◌<◌, ◌≤◌}
 use native.Mathlib.Nat.{mod-lt, div-lt_iff_lt-mul, mul-le-mul}
 use native.Mathlib.Omega.{arith}
 use lib.Dec.{eqb}
-use borrow.Author.Tests.{eq-eqb, ne_eqb, eqb-false}
+use borrow.Author.Tests.{eqb-false}
 use Rattle.pixel.proofs.Blocks.{row_there}
+use Rattle.item.specs.declared.around.Neighbor.{Neighbor}
+use Rattle.item.specs.declared.around.Neighbor.TheVariants.{Left, Top, TopRight, TopLeft}
 use Rattle.item.specs.Neighbors.{neighbor_at}
 
 -- the column and the row of item q
@@ -22,36 +24,12 @@ module _ (w q : ℕ) (pos : 1 ≤ w) where
 pub row_small : (w y : ℕ) → w ≤ 16384 → y ≤ 16384 → y * w ≤ 268435456
 row_small w y l m = mul-le-mul m l
 
-module _ (w x y n : ℕ) where
-  pub left_at : n ≡ 0 → (b : ℕ) → b ≡ x - 1 → y * w + b ≡ neighbor_at w x y n
-  unfolding neighbor_at
-  left_at z b e = rw (z, e)
-
-  pub top_at : n ≡ 1 → (b : ℕ) → b ≡ y - 1 → b * w + x ≡ neighbor_at w x y n
-  unfolding neighbor_at
-  top_at z b e = rw (z, e)
-
-  pub top_right_wraps : n ≡ 2 → x + 1 ≡ w → y * w ≡ neighbor_at w x y n
-  unfolding neighbor_at
-  top_right_wraps z e = rw (z, eq-eqb (x + 1) w e)
-
-  pub top_right_at : n ≡ 2 → (x + 1 ≡ w → ⊥) → (b : ℕ) → b ≡ y - 1 → b * w + (x + 1) ≡ neighbor_at w x y n
-  unfolding neighbor_at
-  top_right_at z d b e = rw (z, ne_eqb (x + 1) w d, e)
-
-  pub top_left_at : n ≡ 3 → (a b : ℕ) → a ≡ x - 1 → b ≡ y - 1 → b * w + a ≡ neighbor_at w x y n
-  unfolding neighbor_at
-  top_left_at z a b d e = rw (z, d, e)
-
 module _ (w x y h : ℕ) (column : x < w) (row : y < h) where
   here : y * w + w ≤ h * w
   here = row_there w h y row
 
   above : (y - 1) * w + w ≤ h * w
   above = row_there w h (y - 1) (omega arith)
-
-  pub item_inside : y * w + x < h * w
-  item_inside = omega (arith, here)
 
   wraps : (b : Bool) → eqb (x + 1) w ≡ b → (if b then y * w else (y - 1) * w + (x + 1)) < h * w
   wraps true e = omega (arith, here)
@@ -60,10 +38,9 @@ module _ (w x y h : ℕ) (column : x < w) (row : y < h) where
       go : (x + 1 ≡ w → ⊥) → (y - 1) * w + (x + 1) < h * w
       go n = omega (arith, above)
 
-  pub neighbor_inside : (n : ℕ) → neighbor_at w x y n < h * w
+  pub neighbor_inside : (n : Neighbor) → neighbor_at w x y n < h * w
   unfolding neighbor_at
-  neighbor_inside zero = omega (arith, here)
-  neighbor_inside (suc zero) = omega (arith, above)
-  neighbor_inside (suc (suc zero)) = wraps (eqb (x + 1) w) refl
-  neighbor_inside (suc (suc (suc zero))) = omega (arith, above)
-  neighbor_inside (suc (suc (suc (suc n)))) = omega (arith, here)
+  neighbor_inside Left = omega (arith, here)
+  neighbor_inside Top = omega (arith, above)
+  neighbor_inside TopRight = wraps (eqb (x + 1) w) refl
+  neighbor_inside TopLeft = omega (arith, above)

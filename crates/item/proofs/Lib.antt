@@ -1,4 +1,4 @@
-pub mod WhenMade
+pub mod Items
 pub mod Named
 pub mod Inside
 pub mod Data

@@ -1,9 +1,10 @@
 -- A prediction does not look at neighbors that its mode does not name, and an item is missing if one that it names is.
-use Rattle.std.specs.Prelude.{if◌then◌else◌}
+use Rattle.std.specs.Prelude.{Option, if◌then◌else◌}
 use mathlib.Core.Bool.{Bool, true, false, not, ◌&&◌, ◌||◌}
 use mathlib.Core.List.{List, [], ◌∷◌}
 use mathlib.Core.Path.{◌≡◌, refl, sym, ap, ◌∙◌}
-use Prim.Native.Nat.{ℕ, zero, suc, ◌+◌, ◌-◌, ◌*◌, ◌≤◌}
+use Prim.Native.Nat.{ℕ, zero, suc, ◌+◌, ◌-◌, ◌*◌, ◌<◌, ◌≤◌}
+use native.Mathlib.Omega.{arith}
 use lib.Dec.{eqb}
 use lib.ListN.{get_or-eq_default}
 use Rattle.format.specs.declared.Pixel.{Pixel}
@@ -15,10 +16,11 @@ use Rattle.format.specs.Picture.{Picture}
 use Rattle.format.specs.Predictor.{predict, predicted, index, left, top, top_right, top_left, mode}
 use Rattle.format.specs.Made.{mode_names, named_by, named, made}
 use Rattle.format.proofs.Choice.{every_at}
-use Rattle.format.specs.declared.Made.{Made}
 use Rattle.item.specs.Made.{asked, residual_made}
-use Rattle.item.specs.Neighbors.{names_neighbor, bit_of, Masks, neighbor_at, mode_at}
-use Rattle.item.proofs.WhenMade.{asked_made, residual-made}
+use Rattle.item.specs.declared.around.Neighbor.TheVariants.{Left, Top, TopRight, TopLeft}
+use Rattle.item.specs.declared.around.Neighbor.{Neighbor}
+use Rattle.item.specs.Neighbors.{order, names_neighbor, bit_of, Masks, neighbor_at, mode_at}
+use Rattle.item.proofs.Items.{asked_made, residual-made}
 
 -- modes 0 to 13 one by one, and all others alike
 by_mode : (P : ℕ → Type 0)
@@ -54,6 +56,12 @@ predict_named l t tr tl =
 pub names_over_13 : (m n : ℕ) → 14 ≤ m → false ≡ names_neighbor m n
 unfolding names_neighbor named_by
 names_over_13 m n h = ap (among n) (sym (get_or-eq_default (mode_names 0 1 2 3) [] h))
+
+pub order_small : (n : Neighbor) → order n < 4
+order_small Left = omega arith
+order_small Top = omega arith
+order_small TopRight = omega arith
+order_small TopLeft = omega arith
 
 -- masks that pass a test of every mode and neighbor
 module _ (ms : List ℕ) where
@@ -125,23 +133,23 @@ if_index f true i j = refl
 if_index f false i j = refl
 
 module _ (w bits : ℕ) (d f : Picture) (x y : ℕ) where
-  predicted_mode : predicted w bits d f x y ≡ predict (mode_at w bits d x y) (f (neighbor_at w x y 0)) (f (neighbor_at w x y 1)) (f (neighbor_at w x y 2)) (f (neighbor_at w x y 3))
+  predicted_mode : predicted w bits d f x y ≡ predict (mode_at w bits d x y) (f (neighbor_at w x y Left)) (f (neighbor_at w x y Top)) (f (neighbor_at w x y TopRight)) (f (neighbor_at w x y TopLeft))
   unfolding predicted mode_at neighbor_at
   predicted_mode =
       border_predict (eqb y 0) (eqb x 0) (mode w bits d x y) (left w f x y) (top w f x y) (top_right w f x y) (top_left w f x y)
       ∙ ap (λ (v : Pixel). predict (mode_at w bits d x y) (left w f x y) (top w f x y) v (top_left w f x y)) (if_index f (eqb (x + 1) w) (y * w) ((y - 1) * w + (x + 1)))
 
-  named_mode : named w bits d x y ≡ named_by (mode_at w bits d x y) (neighbor_at w x y 0) (neighbor_at w x y 1) (neighbor_at w x y 2) (neighbor_at w x y 3)
+  named_mode : named w bits d x y ≡ named_by (mode_at w bits d x y) (neighbor_at w x y Left) (neighbor_at w x y Top) (neighbor_at w x y TopRight) (neighbor_at w x y TopLeft)
   unfolding named mode_at neighbor_at
   named_mode = border_named (eqb y 0) (eqb x 0) (mode w bits d x y) (left w index x y) (top w index x y) (top_right w index x y) (top_left w index x y)
 
   -- a residual of a stage whose items are those of f, where t tests what is missing
-  pub residual_stage : (t : ℕ → Bool) (q m : ℕ) (r v l tp tr tl : Made) → m ≡ mode_at w bits d x y → r ≡ residual_made m v l tp tr tl → v ≡ made (t q) (f q)
-      → l ≡ asked (names_neighbor m 0) (made (t (neighbor_at w x y 0)) (f (neighbor_at w x y 0)))
-      → tp ≡ asked (names_neighbor m 1) (made (t (neighbor_at w x y 1)) (f (neighbor_at w x y 1)))
-      → tr ≡ asked (names_neighbor m 2) (made (t (neighbor_at w x y 2)) (f (neighbor_at w x y 2)))
-      → tl ≡ asked (names_neighbor m 3) (made (t (neighbor_at w x y 3)) (f (neighbor_at w x y 3)))
+  pub residual_stage : (t : ℕ → Bool) (q m : ℕ) (r v l tp tr tl : Option Pixel) → m ≡ mode_at w bits d x y → r ≡ residual_made m v l tp tr tl → v ≡ made (t q) (f q)
+      → l ≡ asked (names_neighbor m 0) (made (t (neighbor_at w x y Left)) (f (neighbor_at w x y Left)))
+      → tp ≡ asked (names_neighbor m 1) (made (t (neighbor_at w x y Top)) (f (neighbor_at w x y Top)))
+      → tr ≡ asked (names_neighbor m 2) (made (t (neighbor_at w x y TopRight)) (f (neighbor_at w x y TopRight)))
+      → tl ≡ asked (names_neighbor m 3) (made (t (neighbor_at w x y TopLeft)) (f (neighbor_at w x y TopLeft)))
       → r ≡ made (t q || some t (named w bits d x y)) (each sub (f q) (predicted w bits d f x y))
   residual_stage t q m r v l tp tr tl e a b c g h i =
       a
-      ∙ rw (b, c, g, h, i) (residual_asked t f m q (neighbor_at w x y 0) (neighbor_at w x y 1) (neighbor_at w x y 2) (neighbor_at w x y 3) ∙ cc (e, predicted_mode, named_mode))
+      ∙ rw (b, c, g, h, i) (residual_asked t f m q (neighbor_at w x y Left) (neighbor_at w x y Top) (neighbor_at w x y TopRight) (neighbor_at w x y TopLeft) ∙ cc (e, predicted_mode, named_mode))

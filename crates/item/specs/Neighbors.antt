@@ -1,16 +1,24 @@
--- The neighbors L, T, TR and TL by their numbers 0 to 3, and the border rule as a mode.
-use Rattle.std.specs.Prelude.{Bool, List, [], ◌∷◌, ◌≡◌, ℕ, ◌/◌, ◌%◌, ◌^◌, ◌<◌, ◌≤◌, eqb, get_or, if◌then◌else◌}
+-- The neighbors L, T, TR and TL, and the border rule as a mode.
+use Rattle.std.specs.Prelude.{Bool, Option, List, ◌≡◌, ℕ, ◌/◌, ◌%◌, ◌^◌, ◌<◌, ◌≤◌, eqb, get_or, if◌then◌else◌}
 use Rattle.format.specs.Indices.{among}
 use Rattle.format.specs.declared.Pixel.{Pixel}
 use Rattle.format.specs.declared.Step.{Step}
-use Rattle.format.specs.declared.Made.{Made}
 use Rattle.format.specs.Picture.{Picture, block}
 use Rattle.format.specs.Predictor.{index, left, top, top_right, top_left, mode}
 use Rattle.format.specs.ValidStep.{ValidStep}
 use Rattle.format.specs.Stages.{part_of}
 use Rattle.format.specs.Made.{named_by, made_item}
+use Rattle.item.specs.declared.around.Neighbor.{Neighbor}
+use Rattle.item.specs.declared.around.Neighbor.TheVariants.{Left, Top, TopRight, TopLeft}
 use Rattle.item.specs.declared.place.Place.{Place}
 use Rattle.item.specs.Made.{asked}
+
+-- a neighbor's number
+abbrev pub order : Neighbor → ℕ
+order Left = 0
+order Top = 1
+order TopRight = 2
+order TopLeft = 3
 
 -- a mode names neighbor n
 unfoldable pub names_neighbor : ℕ → ℕ → Bool
@@ -23,14 +31,17 @@ bit_of masks mode n = eqb (get_or masks mode 0 / 2 ^ n % 2) 1
 pub record Masks (masks : List ℕ) : Type 0 where
   pub bits : (mode n : ℕ) → mode < 14 → n < 4 → bit_of masks mode n ≡ names_neighbor mode n
 
--- the index of neighbor n of column x of row y
-unfoldable pub neighbor_at : ℕ → ℕ → ℕ → ℕ → ℕ
-neighbor_at w x y n = get_or (left w index x y ∷ top w index x y ∷ top_right w index x y ∷ top_left w index x y ∷ []) n 0
+-- the index of a neighbor of column x of row y
+unfoldable pub neighbor_at : ℕ → ℕ → ℕ → Neighbor → ℕ
+neighbor_at w x y Left = left w index x y
+neighbor_at w x y Top = top w index x y
+neighbor_at w x y TopRight = top_right w index x y
+neighbor_at w x y TopLeft = top_left w index x y
 
--- what making neighbor n of a place before record k gives, where the mode names it
-abbrev pub neighbor_made : (ℕ → Step) → List ℕ → ℕ → Picture → ℕ → ℕ → Place → Made
+-- what making a neighbor of a place before record k gives, where the mode names it
+abbrev pub neighbor_made : (ℕ → Step) → List ℕ → ℕ → Picture → ℕ → Neighbor → Place → Option Pixel
 neighbor_made steps ds k f mode n p =
-    asked (names_neighbor mode n) (made_item steps ds k f (neighbor_at (steps k).width p.x p.y n))
+    asked (names_neighbor mode (order n)) (made_item steps ds k f (neighbor_at (steps k).width p.x p.y n))
 
 -- the mode that predicts column x of row y: of the first pixel 0, of the rest of row 0 and of column 0 the one that
 -- predicts L or T

@@ -1,28 +1,39 @@
-// Where the neighbors of a column stand.
+// The neighbors of a column, and where they stand.
 ghost use Rattle.std.specs.Prelude.{◌≡◌, ◌-◌, ◌<◌, ◌≤◌};
-ghost use Rattle.item.specs.Neighbors.{neighbor_at};
+ghost use Rattle.item.specs.Neighbors.{neighbor_at, order};
 
-// One less; 0 where there is none.
-fn before(x: usize) -> usize
-    ensures { result ≡ x - 1 }
-{
-    if x == 0 { 0 } else { x - 1 }
+use crate::place::Place;
+
+#[derive(Clone, Copy)]
+pub enum Neighbor {
+    Left = 0,
+    Top = 1,
+    TopRight = 2,
+    TopLeft = 3,
 }
 
-// The index of neighbor n, of L, T, TR and TL, of column x of row y. A neighbor outside has an index too,
-// which is that of an item inside.
-pub fn neighbor_index(n: usize, x: usize, y: usize, w: usize) -> usize
-    requires { (n < 4) × (x < w) × (w ≤ 16384) × (y < 16384) }
-    ensures { result ≡ neighbor_at w x y n }
+// The number of its bit in a mode's mask.
+pub fn order(n: Neighbor) -> u8
+    ensures { result ≡ order n }
 {
+    n as u8
+}
+
+// The index of a neighbor of a place. A neighbor outside has an index too, which is that of an item inside.
+#[tactic(auto, unfolding(crate::specs::Neighbors::neighbor_at))]
+pub fn neighbor_index(n: Neighbor, at: Place, w: usize) -> usize
+    requires { (at.x < w) × (w ≤ 16384) × (at.y < 16384) }
+    ensures { result ≡ neighbor_at w at.x at.y n }
+{
+    let Place { x, y } = at;
     match n {
-        0 => y * w + before(x),
-        1 => before(y) * w + x,
-        2 => if x + 1 == w {
+        Neighbor::Left => y * w + x.saturating_sub(1),
+        Neighbor::Top => y.saturating_sub(1) * w + x,
+        Neighbor::TopRight => if x + 1 == w {
             y * w
         } else {
-            before(y) * w + (x + 1)
+            y.saturating_sub(1) * w + (x + 1)
         },
-        _ => before(y) * w + before(x),
+        Neighbor::TopLeft => y.saturating_sub(1) * w + x.saturating_sub(1),
     }
 }

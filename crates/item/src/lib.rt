@@ -2,163 +2,133 @@
 // picture or of a later stage, or a record of the strip.
 #![tactic(auto)]
 
-pub mod around;
-pub mod block;
+mod around;
+mod block;
+pub mod painted;
 pub mod place;
-pub mod predict;
-pub mod table;
-pub mod transform;
+mod predict;
+mod residual;
+mod table;
 
 ghost use Rattle.std.specs.Prelude.{◌≡◌, suc, ◌+◌, ◌*◌, ◌<◌, ◌≤◌, length};
 ghost use Rattle.format.specs.ColorTable.{per_pixel};
-ghost use Rattle.format.specs.Made.{made_item, made_number};
 ghost use Rattle.chain.specs.Valid.{steps_of};
 ghost use Rattle.item.specs.Neighbors.{neighbor_made};
-ghost use Rattle.item.specs.Source.{shown, items_after, Source};
+ghost use Rattle.item.specs.Source.{shown, items_after, item_of, Stands};
 ghost use Rattle.item.specs.Table.{record_made};
 
-use crate::around::neighbor_index;
-use crate::block::mode_at;
-use crate::place::{Place, expanded_index, packed_place, stage_place};
-use crate::predict::{black_of, names};
-use crate::table::{joined, record_of, repeated};
-use crate::transform::{color_of, green_of, residual_of};
-use chain::Chain;
-use format::{Made, Pixel};
-use pixel::pixel::pixel_at;
+use crate::around::{Neighbor, neighbor_index};
+use crate::painted::Painted;
+use crate::place::{Place, Stage};
+use crate::predict::names;
+use crate::residual::residual_of;
+use crate::table::{Table, record_of};
+use color::color::transform_pixel;
+use color::subtract_green::store_pixel;
+use format::{Pixel, TransformType};
+use pixel::pixel::{CLEAR, pixel_at};
 use pixel::stride::{Expanded, packed_width, per_pixel};
 
-// The point that is painted: its index in the picture, and its color.
-#[derive(Clone, Copy)]
-pub struct Point {
-    pub index: usize,
-    pub color: Pixel,
-}
+impl<'a> Painted<'a> {
+    // Pixel q of the picture, where the point is painted.
+    #[tactic(auto, using(crate::proofs::Before::shown_here, crate::proofs::Before::shown_off))]
+    fn pixel(&self, q: usize) -> Pixel
+        requires { 4 * q + 4 ≤ length self.now.picture.now }
+        ensures { result ≡ shown self.now.picture.now self.now.point q }
+    {
+        if q == self.point.index {
+            self.point.color
+        } else {
+            pixel_at(self.picture, q)
+        }
+    }
 
-// The number of the refusal; 0 where the item is made.
-pub fn refusal(made: Made) -> u32
-    ensures { result ≡ made_number made }
-{
-    match made {
-        Made::Item(_) => 0,
-        Made::Missing => 22,
+    // Item q after the first k records; None where it cannot be made.
+    #[cycle(item_neighbor_packed_residual)]
+    pub fn item(&self, k: usize, q: usize) -> Option<Pixel>
+        requires { (k ≤ self.now.chain.count) × (q < items_after self.now.chain k) }
+        ensures { result ≡ item_of self.now k q }
+    {
+        if k == 0 {
+            return Some(self.pixel(q));
+        }
+        let j = k - 1;
+        let s = self.chain.steps[j];
+        match s.transform_type() {
+            TransformType::Predictor => self.residual(j, q),
+            TransformType::Color => {
+                let v = self.item(j, q)?;
+                let at = Place::of(q, Stage(s.width));
+                Some(transform_pixel(self.block(j, at), v))
+            },
+            TransformType::SubtractGreen => Some(store_pixel(self.item(j, q)?)),
+            TransformType::ColorTable => {
+                let n = per_pixel(s.size);
+                let at = Place::of(q, packed_width(Expanded(s.width), s.size));
+                let first = Place {
+                    x: at.x * n,
+                    y: at.y,
+                };
+                self.packed(j, n, first)
+            },
+        }
     }
-}
 
-// Pixel q of the picture, where the point is painted.
-#[tactic(auto, using(crate::proofs::Before::shown_here, crate::proofs::Before::shown_off))]
-fn painted(picture: &[u8], q: usize, point: Point) -> Pixel
-    requires { 4 * q + 4 ≤ length picture.now }
-    ensures { result ≡ shown picture.now point q }
-{
-    if q == point.index {
-        point.color
-    } else {
-        pixel_at(picture, q)
+    // Item q after the predictor, which is record k.
+    #[cycle(item_neighbor_packed_residual)]
+    fn residual(&self, k: usize, q: usize) -> Option<Pixel>
+        requires kind { (k < self.now.chain.count) × ((steps_of self.now.chain k).kind ≡ 0) }
+        requires inside { q < self.now.chain.height * (steps_of self.now.chain k).width }
+        ensures { result ≡ item_of self.now (suc k) q }
+    {
+        let at = Place::of(q, Stage(self.chain.steps[k].width));
+        let mode = self.mode(k, at);
+        residual_of(
+            mode,
+            self.item(k, q),
+            self.neighbor(k, mode, Neighbor::Left, at),
+            self.neighbor(k, mode, Neighbor::Top, at),
+            self.neighbor(k, mode, Neighbor::TopRight, at),
+            self.neighbor(k, mode, Neighbor::TopLeft, at),
+        )
     }
-}
 
-// Item q after the first k records.
-#[cycle(item_neighbor_packed_residual)]
-pub fn item(chain: Chain, k: usize, q: usize, data: &[u8], picture: &[u8], point: Point) -> Made
-    requires { Source chain «data».now picture.now × (k ≤ chain.count) × (q < items_after chain k) }
-    ensures { result ≡ made_item (steps_of chain) «data».now k (shown picture.now point) q }
-{
-    if k == 0 {
-        return Made::Item(painted(picture, q, point));
+    // A neighbor of a place before record k. One that the mode does not name is not made: any pixel stands for it.
+    #[cycle(item_neighbor_packed_residual)]
+    fn neighbor(&self, k: usize, mode: u8, n: Neighbor, at: Place) -> Option<Pixel>
+        requires { Stands self.now.chain k at }
+        ensures { result ≡ neighbor_made (steps_of self.now.chain) self.now.«data».now k
+            (shown self.now.picture.now self.now.point) mode n at }
+    {
+        if !names(mode, n) {
+            return Some(CLEAR);
+        }
+        self.item(k, neighbor_index(n, at, self.chain.steps[k].width))
     }
-    let j = k - 1;
-    let s = chain.steps[j];
-    let kind = s.kind;
-    match kind {
-        0 => residual(chain, j, q, data, picture, point),
-        1 => {
-            let at = stage_place(q, s.width);
-            let v = item(chain, j, q, data, picture, point);
-            color_of(s, chain.height, data, at.x, at.y, v)
-        },
-        2 => green_of(item(chain, j, q, data, picture, point)),
-        _ => {
-            let n = per_pixel(s.size);
-            let at = packed_place(q, packed_width(Expanded(s.width), s.size));
-            packed(chain, j, n, at.x * n, at.y, data, picture, point)
-        },
-    }
-}
 
-// Item q after the predictor, which is record k.
-#[cycle(item_neighbor_packed_residual)]
-fn residual(chain: Chain, k: usize, q: usize, data: &[u8], picture: &[u8], point: Point) -> Made
-    requires source { Source chain «data».now picture.now × (k < chain.count) × ((steps_of chain k).kind ≡ 0) }
-    requires q_bound { q < chain.height * (steps_of chain k).width }
-    ensures { result ≡ made_item (steps_of chain) «data».now (suc k)
-        (shown picture.now point) q }
-{
-    let s = chain.steps[k];
-    let at = stage_place(q, s.width);
-    let mode = mode_at(s, chain.height, data, at.x, at.y);
-    residual_of(
-        mode,
-        item(chain, k, q, data, picture, point),
-        neighbor(chain, k, mode, 0, at, data, picture, point),
-        neighbor(chain, k, mode, 1, at, data, picture, point),
-        neighbor(chain, k, mode, 2, at, data, picture, point),
-        neighbor(chain, k, mode, 3, at, data, picture, point),
-    )
-}
-
-// Neighbor n of a place before record k. One that the mode does not name is not made: any pixel stands for it.
-#[cycle(item_neighbor_packed_residual)]
-fn neighbor(
-    chain: Chain,
-    k: usize,
-    mode: u8,
-    n: usize,
-    at: Place,
-    data: &[u8],
-    picture: &[u8],
-    point: Point,
-) -> Made
-    requires source { Source chain «data».now picture.now × (k < chain.count) × (n < 4) }
-    requires x_bound { (at.x < (steps_of chain k).width) × (at.y < chain.height) }
-    ensures { result ≡ neighbor_made (steps_of chain) «data».now k (shown picture.now point)
-        mode n at }
-{
-    if !names(mode, n) {
-        return Made::Item(black_of(0));
+    // The record of n positions from a place on, by the table that is record k. The index of the row's last column is
+    // at the positions after it too.
+    #[cycle(item_neighbor_packed_residual)]
+    fn packed(&self, k: usize, n: usize, at: Place) -> Option<Pixel>
+        requires stands { Stands self.now.chain k at }
+        requires kind { (steps_of self.now.chain k).kind ≡ 3 }
+        requires few { n ≤ per_pixel (steps_of self.now.chain k).size }
+        ensures { result ≡ record_made (steps_of self.now.chain) self.now.«data».now k
+            (shown self.now.picture.now self.now.point) at.y n at.x }
+    {
+        if n == 0 {
+            return Some(record_of(0));
+        }
+        let s = self.chain.steps[k];
+        let table = Table::new(self.data, s);
+        let first = self.item(k, at.index(Expanded(s.width)));
+        if s.width <= at.x + 1 {
+            return table.repeated(first, n);
+        }
+        let next = Place {
+            x: at.x + 1,
+            y: at.y,
+        };
+        table.joined(first, self.packed(k, n - 1, next))
     }
-    let s = chain.steps[k];
-    let q = neighbor_index(n, at.x, at.y, s.width);
-    item(chain, k, q, data, picture, point)
-}
-
-// The record of n positions of row y from column x on, by the table that is record k. The index of the row's last
-// column is at the positions after it too.
-#[cycle(item_neighbor_packed_residual)]
-fn packed(
-    chain: Chain,
-    k: usize,
-    n: usize,
-    x: usize,
-    y: usize,
-    data: &[u8],
-    picture: &[u8],
-    point: Point,
-) -> Made
-    requires source { Source chain «data».now picture.now × (k < chain.count) × ((steps_of chain k).kind ≡ 3) }
-    requires y_lt_height { (y < chain.height) × (x < (steps_of chain k).width) × (n ≤ per_pixel (steps_of chain k).size) }
-    ensures { result ≡ record_made (steps_of chain) «data».now k
-        (shown picture.now point) y n x }
-{
-    let s = chain.steps[k];
-    if n == 0 {
-        return Made::Item(record_of(0));
-    }
-    let q = expanded_index(x, y, Expanded(s.width));
-    let first = item(chain, k, q, data, picture, point);
-    if s.width <= x + 1 {
-        return repeated(s, data, first, n);
-    }
-    let rest = packed(chain, k, n - 1, x + 1, y, data, picture, point);
-    joined(s, data, first, rest)
 }

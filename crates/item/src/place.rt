@@ -1,8 +1,43 @@
-// Columns and rows by a stage's stride. Each function takes the stride that it is for, so that a swap does not
-// compile.
-ghost use Rattle.std.specs.Prelude.{◌≡◌, ◌+◌, ◌*◌, ◌/◌, ◌%◌, ◌<◌, ◌≤◌};
+// Columns and rows of a stage.
+ghost use Rattle.std.specs.Prelude.{◌≡◌, ℕ, ◌+◌, ◌*◌, ◌/◌, ◌%◌, ◌<◌, ◌≤◌};
 
 use pixel::stride::{Expanded, Packed};
+
+// How many columns a row has, by a type that says what is counted.
+pub trait Stride: Copy {
+    ghost columns: { Self → ℕ };
+
+    fn columns(self) -> usize
+        ensures { result ≡ columns self };
+}
+
+impl Stride for Packed {
+    ghost columns = { λ row. row.0 };
+
+    fn columns(self) -> usize {
+        self.0
+    }
+}
+
+impl Stride for Expanded {
+    ghost columns = { λ row. row.0 };
+
+    fn columns(self) -> usize {
+        self.0
+    }
+}
+
+// Columns of a row of any stage, packed or not: no other stride is in reach.
+#[derive(Clone, Copy)]
+pub struct Stage(pub usize);
+
+impl Stride for Stage {
+    ghost columns = { λ row. row.0 };
+
+    fn columns(self) -> usize {
+        self.0
+    }
+}
 
 // Column x of row y.
 #[derive(Clone, Copy)]
@@ -11,47 +46,24 @@ pub struct Place {
     pub y: usize,
 }
 
-// Where item q of a stage of `width` columns stands, packed or not: no other stride is in reach.
-pub fn stage_place(q: usize, width: usize) -> Place
-    requires { 1 ≤ width }
-    ensures { (result.x ≡ q % width) × (result.y ≡ q / width) }
-{
-    Place {
-        x: q % width,
-        y: q / width,
+impl Place {
+    // Where item q stands.
+    pub fn of<S: Stride>(q: usize, row: S) -> Self
+        requires { 1 ≤ S.columns row }
+        ensures { (result.x ≡ q % S.columns row) × (result.y ≡ q / S.columns row) }
+    {
+        let columns = row.columns();
+        Place {
+            x: q % columns,
+            y: q / columns,
+        }
     }
-}
 
-// Where item q of the stage before a table stands.
-pub fn expanded_place(q: usize, row: Expanded) -> Place
-    requires { 1 ≤ row.0 }
-    ensures { (result.x ≡ q % row.0) × (result.y ≡ q / row.0) }
-{
-    let w = row.0;
-    Place { x: q % w, y: q / w }
-}
-
-// Where packed pixel q stands.
-pub fn packed_place(q: usize, row: Packed) -> Place
-    requires { 1 ≤ row.0 }
-    ensures { (result.x ≡ q % row.0) × (result.y ≡ q / row.0) }
-{
-    let w = row.0;
-    Place { x: q % w, y: q / w }
-}
-
-// The item at column x of row y of the stage before a table.
-pub fn expanded_index(x: usize, y: usize, row: Expanded) -> usize
-    requires { y * row.0 + x < 18446744073709551616 }
-    ensures { result ≡ y * row.0 + x }
-{
-    y * row.0 + x
-}
-
-// The packed pixel at column x of row y.
-pub fn packed_index(x: usize, y: usize, row: Packed) -> usize
-    requires { y * row.0 + x < 18446744073709551616 }
-    ensures { result ≡ y * row.0 + x }
-{
-    y * row.0 + x
+    // The item that stands here.
+    pub fn index<S: Stride>(self, row: S) -> usize
+        requires { self.y * S.columns row + self.x < 18446744073709551616 }
+        ensures { result ≡ self.y * S.columns row + self.x }
+    {
+        self.y * row.columns() + self.x
+    }
 }

@@ -1,15 +1,26 @@
 // Records of indices, index by index.
-ghost use Rattle.std.specs.Prelude.{◌≡◌, ◌^◌, ◌<◌, ◌≤◌, length};
+ghost use Rattle.std.specs.Prelude.{◌≡◌, ◌*◌, ◌^◌, ◌<◌, ◌≤◌, length};
 ghost use Rattle.format.specs.Pixel.{pixel};
-ghost use Rattle.format.specs.ColorTable.{per_pixel, index_of, digits};
-ghost use Rattle.format.specs.Stages.{part_of};
+ghost use Rattle.format.specs.Picture.{pixels};
+ghost use Rattle.format.specs.ColorTable.{per_pixel, digits};
+ghost use Rattle.format.specs.Stages.{data_of};
+ghost use Rattle.color_table.specs.Found.{found};
 ghost use Rattle.item.specs.Table.{joined_made, repeated_made, EntriesIn, Room};
 
 use chain::part_of;
 use color_table::find::scan;
 use color_table::table::index_range;
-use format::{Made, Pixel, Step};
-use pixel::word::word_of;
+use format::{Pixel, Step};
+use pixel::word::Word;
+
+// The entries that a record of a chain names.
+#[derive(Clone, Copy)]
+pub struct Table<'a> {
+    pub entries: &'a [u8],
+    pub size: usize,
+    pub ghost room: { 4 * size ≤ length entries.now },
+    pub ghost small: { size ≤ 256 },
+}
 
 pub fn record_of(byte: u8) -> Pixel
     ensures { result ≡ pixel 0 byte 0 255 }
@@ -22,58 +33,56 @@ pub fn record_of(byte: u8) -> Pixel
     }
 }
 
-// The lowest index of a pixel; the table's size where it has none.
-fn index_of(s: Step, data: &[u8], v: Pixel) -> usize
-    requires { EntriesIn s (length «data».now) }
-    ensures { result ≡ index_of s.size (part_of s «data».now) v }
-{
-    scan(part_of(data, s), s.size, word_of(v))
-}
-
 // The byte of n positions that all have the index i.
 fn repeated_index(i: usize, n: usize, range: usize) -> u8
     requires { (i < range) × (range ^ n ≤ 256) }
     ensures { result ≡ digits range n (λ k. i) }
 {
     let mut byte = 0;
-    let mut k = 0;
-    while k < n {
+    for _ in 0..n {
         byte = i + range * byte;
-        k += 1;
     }
     byte as u8
 }
 
-// The record of n positions that all have the index of an item.
-pub fn repeated(s: Step, data: &[u8], made: Made, n: usize) -> Made
-    requires { EntriesIn s (length «data».now) × (n ≤ per_pixel s.size) }
-    ensures { result ≡ repeated_made s.size (part_of s «data».now) n made }
-{
-    let Made::Item(v) = made else {
-        return Made::Missing;
-    };
-    let i = index_of(s, data, v);
-    if s.size <= i {
-        return Made::Missing;
+impl<'a> Table<'a> {
+    pub fn new(data: &'a [u8], s: Step) -> Self
+        requires { EntriesIn s (length «data».now) }
+        ensures { (result.entries.now ≡ data_of s «data».now) × (result.size ≡ s.size) }
+    {
+        Table {
+            entries: part_of(data, s),
+            size: s.size,
+        }
     }
-    Made::Item(record_of(repeated_index(i, n, index_range(s.size))))
-}
 
-// The record of a column and of the positions after it, by the record of these.
-pub fn joined(s: Step, data: &[u8], first: Made, rest: Made) -> Made
-    requires { EntriesIn s (length «data».now) × Room s.size rest }
-    ensures { result ≡ joined_made s.size (part_of s «data».now) first rest }
-{
-    let Made::Item(v) = first else {
-        return Made::Missing;
-    };
-    let Made::Item(r) = rest else {
-        return Made::Missing;
-    };
-    let i = index_of(s, data, v);
-    if s.size <= i {
-        return Made::Missing;
+    // The lowest index of a pixel that has an entry.
+    fn index(&self, v: Pixel) -> Option<usize>
+        ensures { result ≡ found self.now.size (pixels self.now.entries.now) v }
+    {
+        scan(self.entries, self.size, Word::from(v))
     }
-    let byte = i + index_range(s.size) * (r.green as usize);
-    Made::Item(record_of(byte as u8))
+
+    // The record of n positions that all have the index of an item.
+    #[tactic(auto, unfolding(crate::specs::Table::repeated_made))]
+    pub fn repeated(&self, item: Option<Pixel>, n: usize) -> Option<Pixel>
+        requires { n ≤ per_pixel self.now.size }
+        ensures { result ≡ repeated_made self.now.size (pixels self.now.entries.now) n item }
+    {
+        let i = self.index(item?)?;
+        Some(record_of(repeated_index(i, n, index_range(self.size))))
+    }
+
+    // The record of a column and of the positions after it, by the record of these.
+    #[tactic(auto, unfolding(crate::specs::Table::joined_made))]
+    pub fn joined(&self, first: Option<Pixel>, rest: Option<Pixel>) -> Option<Pixel>
+        requires { Room self.now.size rest }
+        ensures { result ≡ joined_made self.now.size (pixels self.now.entries.now) first rest }
+    {
+        let v = first?;
+        let r = rest?;
+        let i = self.index(v)?;
+        let byte = i + index_range(self.size) * (r.green as usize);
+        Some(record_of(byte as u8))
+    }
 }

@@ -1,5 +1,5 @@
-// The calls of the library `letchwater` as C functions of a static library, for the Rust host: the same names,
-// parameters and contracts. Each gives the number and every byte of every lent buffer, on every input.
+// The calls of the library `letchwater` as C functions of a static library, for the Rust host: the same names and
+// parameters, a number for each result. Each contract gives it and every byte of every lent buffer, on every input.
 #![tactic(auto)]
 
 ghost use Rattle.std.specs.Prelude.{◌≡◌};
@@ -8,6 +8,8 @@ ghost use Rattle.format.specs.Calls.{rebuild_answer, rebuild_image, store_answer
 ghost use Rattle.format.specs.Calls.{retouch_answer, retouch_picture, retouch_strip};
 ghost use Rattle.format.specs.ColorMap.{color_map_answer, adjust_color_map, unadjust_color_map};
 ghost use Rattle.format.specs.Report.{report_answer, report_counters};
+
+use letchwater::{number, retouch_number};
 
 // Rebuilds a picture in the buffer whose front holds its strip.
 #[unsafe(no_mangle)]
@@ -22,7 +24,7 @@ pub extern "C" fn letchwater_rebuild(
     ensures image_after { image.new ≡ rebuild_image width height chain.now «data».now
         image.old }
 {
-    letchwater::letchwater_rebuild(width, height, chain, data, image)
+    number(letchwater::letchwater_rebuild(width, height, chain, data, image))
 }
 
 // Stores a picture as a strip.
@@ -40,7 +42,7 @@ pub extern "C" fn letchwater_store(
     ensures strip_after { strip.new ≡ store_strip width height chain.now «data».now
         picture.now strip.old }
 {
-    letchwater::letchwater_store(width, height, chain, data, picture, strip)
+    number(letchwater::letchwater_store(width, height, chain, data, picture, strip))
 }
 
 // Paints column x of row y with the color r, g, b, a, and makes the records of its spots afresh.
@@ -66,7 +68,9 @@ pub extern "C" fn letchwater_retouch(
     ensures strip_after { strip.new ≡ retouch_strip width height chain.now «data».now
         picture.old strip.old x y (pixel r g b a) }
 {
-    letchwater::letchwater_retouch(width, height, chain, data, picture, strip, x, y, r, g, b, a)
+    retouch_number(letchwater::letchwater_retouch(
+        width, height, chain, data, picture, strip, x, y, r, g, b, a,
+    ))
 }
 
 // Adds a picture's pixels to the counters, by color: one counter for each color, then one for all others.
@@ -83,7 +87,7 @@ pub extern "C" fn letchwater_report(
     ensures counters_after { counters.new ≡ report_counters width height picture.now colors.now
         counters.old }
 {
-    letchwater::letchwater_report(width, height, picture, colors, counters)
+    number(letchwater::letchwater_report(width, height, picture, colors, counters))
 }
 
 // Turns a color map as the file has it into finished entries.
@@ -92,7 +96,7 @@ pub extern "C" fn letchwater_adjust_color_map(color_map: &mut [u8]) -> u32
     ensures value { result ≡ color_map_answer color_map.old }
     ensures color_map_after { color_map.new ≡ adjust_color_map color_map.old }
 {
-    letchwater::letchwater_adjust_color_map(color_map)
+    number(letchwater::letchwater_adjust_color_map(color_map))
 }
 
 // Undoes that.
@@ -101,5 +105,5 @@ pub extern "C" fn letchwater_unadjust_color_map(color_map: &mut [u8]) -> u32
     ensures value { result ≡ color_map_answer color_map.old }
     ensures color_map_after { color_map.new ≡ unadjust_color_map color_map.old }
 {
-    letchwater::letchwater_unadjust_color_map(color_map)
+    number(letchwater::letchwater_unadjust_color_map(color_map))
 }

@@ -5,7 +5,7 @@ use Rattle.format.specs.Picture.{Picture, pixels}
 use Rattle.pixel.specs.Cells.{pixel_cells, Rule, run, given}
 use Rattle.pixel.specs.Held.{HoldsRow}
 use Rattle.pixel.proofs.Cells.{pixel_lawful, run_at, run_after}
-use Rattle.pixel.proofs.Part.{back, part, pixels_part, part_back}
+use Rattle.pixel.proofs.Part.{back, part, part_back}
 
 -- by a rule that reads no pixel of the buffer but the one that it replaces
 pub held_run : (h : Rule Pixel) (g : Picture) (y w : ℕ) (xs ys : List ℕ) → ys ≡ run pixel_cells h 0 w xs → ((p : Picture) (x : ℕ) → x < w → p x ≡ pixels xs x → h p x ≡ g (y * w + x))
@@ -14,10 +14,6 @@ held_run h g y w xs ys e s l x u =
     let r = run_at pixel_cells pixel_lawful h 0 xs w x (omega arith) (omega arith) (omega arith) in
     let k = run_after pixel_cells pixel_lawful h 0 xs (x - 0) x (omega arith) in
     ap (λ (zs : List ℕ). pixels zs x) e ∙ r ∙ s (pixels (run pixel_cells h 0 (x - 0) xs)) x u k
-
--- row y of the picture that the buffer bs holds, in its part
-pub held_part : (y w : ℕ) (bs : List ℕ) → 4 * (y * w) + 4 * w ≤ length bs → HoldsRow (pixels bs) y w (part (y * w) w bs)
-held_part y w bs l = pixels_part (y * w) w bs l
 
 -- a row copied into its part of a picture, which comes back as ys
 pub held_back : (g : Picture) (y w : ℕ) (zs xs ys : List ℕ) → ys ≡ run pixel_cells (given (pixels zs)) 0 w (part (y * w) w xs) → HoldsRow g y w zs → 4 * (y * w) + 4 * w ≤ length xs

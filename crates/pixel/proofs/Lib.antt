@@ -9,3 +9,5 @@ pub mod Given
 pub mod Rows
 pub mod Held
 pub mod Places
+pub mod Turn
+pub mod Words

@@ -11,10 +11,6 @@ by_places P a b c d n h = go h.only
     go (inr (inr (inl q))) = subst P (sym q) c
     go (inr (inr (inr q))) = subst P (sym q) d
 
--- what is left where n is none of the others
-pub last_place : (n : ℕ) → Places n → (n ≡ 8 → ⊥) → (n ≡ 4 → ⊥) → (n ≡ 2 → ⊥) → n ≡ 1
-last_place n h = by_places (λ m. (m ≡ 8 → ⊥) → (m ≡ 4 → ⊥) → (m ≡ 2 → ⊥) → m ≡ 1) (λ x y z. omega arith) (λ x y z. absurd (z (omega arith))) (λ x y z. absurd (y (omega arith))) (λ x y z. absurd (x (omega arith))) n h
-
 pub places_1 : Places 1
 places_1 = record { some = omega arith; most = omega arith; only = inl refl }
 

@@ -12,9 +12,6 @@ run_zero h xs = refl
 pub no_rows : (h : Rule Pixel) (w : ℕ) (xs : List ℕ) → xs ≡ run pixel_cells h 0 (0 * w) xs
 no_rows h w xs = rw zero-mul (run_zero h xs)
 
-pub run_all : (h : Rule Pixel) (m n : ℕ) (xs ys : List ℕ) → ys ≡ run pixel_cells h 0 m xs → m ≡ n → ys ≡ run pixel_cells h 0 n xs
-run_all h m n xs ys e q = rw q at e
-
 -- one part after another
 pub run_then : (h : Rule Pixel) (n m k : ℕ) (xs ys zs : List ℕ) → ys ≡ run pixel_cells h 0 n xs → zs ≡ run pixel_cells h n m ys → n + m ≡ k → zs ≡ run pixel_cells h 0 k xs
 run_then h n m k xs ys zs e q j = q ∙ rw e (rw (zero-add, j) at (run_append pixel_cells h 0 xs n m))

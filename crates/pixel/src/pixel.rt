@@ -1,15 +1,28 @@
 // A pixel by value. Loops read and write whole pixels, so that a turn is one call.
 ghost use Rattle.std.specs.Prelude.{◌≡◌, ◌+◌, ◌*◌, ◌≤◌, length, if◌then◌else◌};
-ghost use Rattle.format.specs.Byte.{add, sub, avg, clamp_full, clamp_half};
-ghost use Rattle.format.specs.Pixel.{each, each3};
+ghost use Rattle.format.specs.Byte.{add, sub};
+ghost use Rattle.format.specs.Pixel.{each};
 ghost use Rattle.format.specs.Picture.{pixels};
 ghost use Rattle.format.specs.Predictor.{select as selected};
 ghost use Rattle.pixel.specs.Distance.{between};
 ghost use Rattle.pixel.specs.Cells.{put_pixel};
 
-use crate::byte::{average2, clamp_add_subtract_full, clamp_add_subtract_half, distance};
+use crate::byte::distance;
 use format::Pixel;
-use std::num::{wrapping_add_u8, wrapping_sub_u8};
+
+pub const BLACK: Pixel = Pixel {
+    red: 0,
+    green: 0,
+    blue: 0,
+    alpha: 255,
+};
+
+pub const CLEAR: Pixel = Pixel {
+    red: 0,
+    green: 0,
+    blue: 0,
+    alpha: 0,
+};
 
 // Pixel i of the bytes xs.
 pub fn pixel_at(xs: &[u8], i: usize) -> Pixel
@@ -36,22 +49,23 @@ pub fn put_pixel(xs: &mut [u8], i: usize, v: Pixel)
     xs[j + 3] = v.alpha;
 }
 
-// Channel by channel, modulo 256.
+// Channel by channel, modulo 256. Here and below the channels are written out: by a closure for each channel, the loops
+// of the modes take up to twice the time.
 pub fn add_pixels(u: Pixel, v: Pixel) -> Pixel
     ensures { result ≡ each add u v }
 {
     Pixel {
-        red: wrapping_add_u8(u.red, v.red),
-        green: wrapping_add_u8(u.green, v.green),
-        blue: wrapping_add_u8(u.blue, v.blue),
-        alpha: wrapping_add_u8(u.alpha, v.alpha),
+        red: u.red.wrapping_add(v.red),
+        green: u.green.wrapping_add(v.green),
+        blue: u.blue.wrapping_add(v.blue),
+        alpha: u.alpha.wrapping_add(v.alpha),
     }
 }
 
 fn minus(a: u8, b: u8) -> u8
     ensures { result ≡ sub a b }
 {
-    wrapping_sub_u8(a, b)
+    a.wrapping_sub(b)
 }
 
 pub fn subtract_pixels(u: Pixel, v: Pixel) -> Pixel
@@ -62,45 +76,6 @@ pub fn subtract_pixels(u: Pixel, v: Pixel) -> Pixel
         green: minus(u.green, v.green),
         blue: minus(u.blue, v.blue),
         alpha: minus(u.alpha, v.alpha),
-    }
-}
-
-pub fn average_pixels(u: Pixel, v: Pixel) -> Pixel
-    ensures { result ≡ each avg u v }
-{
-    Pixel {
-        red: average2(u.red, v.red),
-        green: average2(u.green, v.green),
-        blue: average2(u.blue, v.blue),
-        alpha: average2(u.alpha, v.alpha),
-    }
-}
-
-pub fn average_four_pixels(a: Pixel, b: Pixel, c: Pixel, d: Pixel) -> Pixel
-    ensures { result ≡ each avg (each avg a b) (each avg c d) }
-{
-    average_pixels(average_pixels(a, b), average_pixels(c, d))
-}
-
-pub fn clamp_full_pixels(l: Pixel, t: Pixel, tl: Pixel) -> Pixel
-    ensures { result ≡ each3 clamp_full l t tl }
-{
-    Pixel {
-        red: clamp_add_subtract_full(l.red, t.red, tl.red),
-        green: clamp_add_subtract_full(l.green, t.green, tl.green),
-        blue: clamp_add_subtract_full(l.blue, t.blue, tl.blue),
-        alpha: clamp_add_subtract_full(l.alpha, t.alpha, tl.alpha),
-    }
-}
-
-pub fn clamp_half_pixels(l: Pixel, t: Pixel, tl: Pixel) -> Pixel
-    ensures { result ≡ each3 clamp_half l t tl }
-{
-    Pixel {
-        red: clamp_add_subtract_half(l.red, t.red, tl.red),
-        green: clamp_add_subtract_half(l.green, t.green, tl.green),
-        blue: clamp_add_subtract_half(l.blue, t.blue, tl.blue),
-        alpha: clamp_add_subtract_half(l.alpha, t.alpha, tl.alpha),
     }
 }
 

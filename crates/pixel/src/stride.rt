@@ -31,6 +31,5 @@ pub fn packed_width(expanded: Expanded, size: usize) -> Packed
     requires { expanded.0 ≤ 16384 }
     ensures { result.0 ≡ packed_width size expanded.0 }
 {
-    let n = per_pixel(size);
-    Packed((expanded.0 + n - 1) / n)
+    Packed(expanded.0.div_ceil(per_pixel(size)))
 }

@@ -1,85 +1,119 @@
 // A pixel in one number of 32 bits. The four byte reads, summed, and the four byte stores compile to one load and one
 // store of 32 bits each, so that a loop over pixels is vectorized.
-ghost use Rattle.std.specs.Prelude.{◌≡◌, ◌+◌, ◌*◌, ◌%◌, ◌<◌, ◌≤◌, length};
-ghost use Rattle.format.specs.Pixel.{pixel};
+ghost use Rattle.std.specs.Prelude.{◌≡◌, ◌+◌, ◌*◌, ◌≤◌, length};
+ghost use Rattle.format.specs.declared.Pixel.{Pixel};
+ghost use Rattle.format.specs.Pixel.{equal};
 ghost use Rattle.format.specs.Picture.{pixels};
-ghost use Rattle.pixel.specs.Cells.{put_pixel};
-ghost use Rattle.pixel.specs.Word.{unword};
+ghost use Rattle.pixel.specs.Cells.{pixel_cells};
+ghost use Rattle.pixel.specs.Word.{number, equal-laws};
 
+use crate::cell::Cell;
 use format::Pixel;
+use std::marker::Model;
 
-pub fn wide(x: u8) -> u32
-    ensures { (result ≡ x) × (result < 256) }
-{
-    x as u32
+// Contracts see the pixel.
+#[derive(Clone, Copy)]
+pub struct Word {
+    bits: u32,
 }
 
-fn low(x: u32) -> u8
-    ensures { result ≡ x % 256 }
-{
-    (x % 256) as u8
+impl Model for Word {
+    ghost use Rattle.std.specs.Prelude.{◌^◌, ◌<◌};
+    ghost use Rattle.format.specs.declared.Pixel.{Pixel};
+    ghost use Rattle.pixel.specs.Word.{unword, number, number-unword};
+
+    ghost Value = { Pixel };
+
+    ghost view = { λ w. unword w.bits };
+
+    ghost invariant = { λ w. w.bits < 2 ^ 32 };
+
+    ghost inverse = { λ v. record { bits = number v } };
+
+    ghost inverse_ok = { λ w below i. record { bits = number-unword w.bits below i } };
 }
 
-pub fn join(r: u32, g: u32, b: u32, a: u32) -> u32
-    requires { (r < 256) × (g < 256) × (b < 256) × (a < 256) }
-    ensures { unword result ≡ pixel r g b a }
-{
-    r + 256 * g + 65536 * b + 16777216 * a
-}
+// Alike in all four bytes.
+impl PartialEq for Word {
+    ghost eq = { equal };
 
-pub fn split(w: u32) -> Pixel
-    ensures { result ≡ unword w }
-{
-    Pixel {
-        red: low(w),
-        green: low(w / 256),
-        blue: low(w / 65536),
-        alpha: low(w / 16777216),
+    ghost laws = { equal-laws };
+
+    fn eq(&self, other: &Word) -> bool {
+        self.bits == other.bits
     }
 }
 
-pub fn word_of(v: Pixel) -> u32
-    ensures { unword result ≡ v }
-{
-    join(wide(v.red), wide(v.green), wide(v.blue), wide(v.alpha))
+impl From<[u8; 4]> for Word {
+    ghost from_gives = { λ bytes w. w ≡ pixels bytes 0 };
+
+    fn from(bytes: [u8; 4]) -> Word {
+        Word {
+            bits: u32::from_le_bytes(bytes),
+        }
+    }
 }
 
-// Pixel i of the bytes xs.
-pub fn word_at(xs: &[u8], i: usize) -> u32
-    requires { 4 * i + 4 ≤ length xs.now }
-    ensures { unword result ≡ pixels xs.now i }
-{
-    let j = 4 * i;
-    join(
-        wide(xs[j]),
-        wide(xs[j + 1]),
-        wide(xs[j + 2]),
-        wide(xs[j + 3]),
-    )
+impl From<Pixel> for Word {
+    ghost from_gives = { λ v w. w ≡ v };
+
+    fn from(v: Pixel) -> Word {
+        Word::from([v.red, v.green, v.blue, v.alpha])
+    }
 }
 
-pub fn put_word(xs: &mut [u8], i: usize, w: u32)
-    requires { 4 * i + 4 ≤ length xs.old }
-    ensures { xs.new ≡ put_pixel xs.old i (unword w) }
-{
-    let j = 4 * i;
-    xs[j] = low(w);
-    xs[j + 1] = low(w / 256);
-    xs[j + 2] = low(w / 65536);
-    xs[j + 3] = low(w / 16777216);
+impl From<Word> for [u8; 4] {
+    ghost from_gives = { λ w bytes. w ≡ pixels bytes 0 };
+
+    fn from(w: Word) -> [u8; 4] {
+        w.bits.to_le_bytes()
+    }
 }
 
-// What `pixel_at` and `put_pixel` do, by way of a word.
-pub fn read_pixel(xs: &[u8], i: usize) -> Pixel
-    requires { 4 * i + 4 ≤ length xs.now }
-    ensures { result ≡ pixels xs.now i }
-{
-    split(word_at(xs, i))
+impl From<Word> for Pixel {
+    ghost from_gives = { λ w v. v ≡ w };
+
+    fn from(w: Word) -> Pixel {
+        let [red, green, blue, alpha] = w.bits.to_le_bytes();
+        Pixel {
+            red,
+            green,
+            blue,
+            alpha,
+        }
+    }
 }
 
-pub fn write_pixel(xs: &mut [u8], i: usize, v: Pixel)
-    requires { 4 * i + 4 ≤ length xs.old }
-    ensures { xs.new ≡ put_pixel xs.old i v }
-{
-    put_word(xs, i, word_of(v));
+impl Word {
+    // Pixel i of the bytes xs.
+    pub fn at(xs: &[u8], i: usize) -> Word
+        requires { 4 * i + 4 ≤ length xs.now }
+        ensures { result ≡ pixels xs.now i }
+    {
+        let j = 4 * i;
+        Word::from([xs[j], xs[j + 1], xs[j + 2], xs[j + 3]])
+    }
+
+    pub fn number(self) -> u32
+        ensures { result ≡ number self }
+    {
+        self.bits
+    }
+}
+
+impl Cell for Word {
+    ghost Value = { Pixel };
+
+    ghost value = { λ w. w };
+
+    ghost cells = { pixel_cells };
+
+    fn put(self, xs: &mut [u8], i: usize) {
+        let j = 4 * i;
+        let [red, green, blue, alpha] = self.bits.to_le_bytes();
+        xs[j] = red;
+        xs[j + 1] = green;
+        xs[j + 2] = blue;
+        xs[j + 3] = alpha;
+    }
 }

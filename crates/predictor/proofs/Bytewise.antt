@@ -1,75 +1,122 @@
--- Loops over bytes for the modes that read the row above alone: each byte gains a function of two bytes that stand
--- whole pixels before it.
-use Rattle.std.proofs.Common.{◌≡◌, ℕ, ◌+◌, ◌-◌, ◌*◌, ◌<◌, ◌≤◌, List, sym, refl, ap, ◌∙◌, arith}
+-- Loops over bytes: where a mode goes channel by channel, they are the mode's loops over pixels.
+use Rattle.std.proofs.Common.{◌≡◌, ℕ, zero, suc, ◌+◌, ◌-◌, ◌*◌, ◌<◌, ◌≤◌, List, [], ◌∷◌, sym, refl, ap, ◌∙◌, add-zero, arith}
+use lib.ListN.{get_or-eq_default}
 use Rattle.format.specs.declared.Pixel.{Pixel}
-use Rattle.format.specs.Byte.{add, avg}
-use Rattle.format.specs.Pixel.{each}
+use Rattle.format.specs.Byte.{avg, clamp_full, clamp_half}
+use Rattle.format.specs.Pixel.{pixel, each, each3}
 use Rattle.format.specs.Picture.{byte_at, pixels}
 use Rattle.format.specs.Predictor.{predict}
-use Rattle.pixel.specs.Cells.{byte_cells, pixel_cells, Rule, run}
-use Rattle.pixel.proofs.Cells.{pixel_lawful, run_same}
+use Rattle.pixel.specs.Cells.{byte_cells, pixel_cells, run, given}
 use Rattle.pixel.proofs.Channels.{Channels, pixels_bytes}
-use Rattle.predictor.specs.Row.{around, gains}
-use Rattle.predictor.specs.Bytewise.{first, bytewise}
+use Rattle.predictor.specs.Row.{around, gains, residual}
+use Rattle.predictor.specs.Bytewise.{Channelwise, predict_byte, byte_around, byte_gains, byte_residual}
 
-module _ (f : ℕ → ℕ → ℕ) (a b : ℕ) (pa : 1 ≤ a) (pb : 1 ≤ b) where
-  abbrev pixelwise : Rule Pixel
-  pixelwise p i = each add (p i) (each f (p (i - a)) (p (i - b)))
+pub byte_over_13 : (m l t tr tl : ℕ) → 14 ≤ m → predict_byte m l t tr tl ≡ 0
+unfolding predict_byte
+byte_over_13 m l t tr tl h =
+    get_or-eq_default
+    (0 ∷ l ∷ t ∷ tr ∷ tl ∷ avg (avg l tr) t ∷ avg l tl ∷ avg l t ∷ avg tl t ∷ avg t tr ∷ avg (avg l tl) (avg t tr) ∷ 0 ∷ clamp_full l t tl ∷ clamp_half l t tl ∷ [])
+    0 h
 
-  -- the bytes that a byte of pixel q is made of stand before the pixel, but for itself
-  channels : (q : ℕ) → a ≤ q → b ≤ q → (xs : List ℕ) → Channels (bytewise f (4 * a) (4 * b)) xs q (pixelwise (pixels xs) q)
-  unfolding each pixels
-  channels q la lb xs =
-      let ea : 4 * q - 4 * a ≡ 4 * (q - a) = omega arith in
-      let eb : 4 * q - 4 * b ≡ 4 * (q - b) = omega arith in
+-- a line for each line of the two tables
+pub predict_channels : (m : ℕ) → Channelwise m → (l t tr tl : Pixel)
+    → predict m l t tr tl
+    ≡ pixel (predict_byte m l.red t.red tr.red tl.red) (predict_byte m l.green t.green tr.green tl.green)
+    (predict_byte m l.blue t.blue tr.blue tl.blue)
+    (predict_byte m l.alpha t.alpha tr.alpha tl.alpha)
+unfolding predict predict_byte each each3
+predict_channels zero n l t tr tl = absurd (n.not_black refl)
+predict_channels (suc zero) n l t tr tl = refl
+predict_channels (suc (suc zero)) n l t tr tl = refl
+predict_channels (suc (suc (suc zero))) n l t tr tl = refl
+predict_channels (suc (suc (suc (suc zero)))) n l t tr tl = refl
+predict_channels (suc (suc (suc (suc (suc zero))))) n l t tr tl = refl
+predict_channels (suc (suc (suc (suc (suc (suc zero)))))) n l t tr tl = refl
+predict_channels (suc (suc (suc (suc (suc (suc (suc zero))))))) n l t tr tl = refl
+predict_channels (suc (suc (suc (suc (suc (suc (suc (suc zero)))))))) n l t tr tl = refl
+predict_channels (suc (suc (suc (suc (suc (suc (suc (suc (suc zero))))))))) n l t tr tl = refl
+predict_channels (suc (suc (suc (suc (suc (suc (suc (suc (suc (suc zero)))))))))) n l t tr tl = refl
+predict_channels (suc (suc (suc (suc (suc (suc (suc (suc (suc (suc (suc zero))))))))))) n l t tr tl = absurd (n.not_select refl)
+predict_channels (suc (suc (suc (suc (suc (suc (suc (suc (suc (suc (suc (suc zero)))))))))))) n l t tr tl = refl
+predict_channels (suc (suc (suc (suc (suc (suc (suc (suc (suc (suc (suc (suc (suc zero))))))))))))) n l t tr tl = refl
+predict_channels (suc (suc (suc (suc (suc (suc (suc (suc (suc (suc (suc (suc (suc (suc m)))))))))))))) n l t tr tl = refl
+
+module _ (m w : ℕ) (n : Channelwise m) (wide : 2 ≤ w) (xs : List ℕ) (q : ℕ) (off : w + 1 ≤ q) where
+  -- channel k of pixel q is made of bytes of earlier pixels, so that it is the same in any ys with these bytes
+  byte-at : (k : ℕ) → k < 4 → (ys : List ℕ) → ((j : ℕ) → j < 4 * q → byte_at ys j ≡ byte_at xs j)
+      → byte_around m (4 * w) (byte_at ys) (4 * q + k)
+      ≡ predict_byte m (byte_at xs (4 * (q - 1) + k)) (byte_at xs (4 * (q - w) + k)) (byte_at xs (4 * (q - w + 1) + k)) (byte_at xs (4 * (q - w - 1) + k))
+  unfolding byte_around
+  byte-at k h ys before =
+      let el : 4 * q + k - 4 ≡ 4 * (q - 1) + k = omega arith in
+      let et : 4 * q + k - 4 * w ≡ 4 * (q - w) + k = omega arith in
+      let er : 4 * (q - w) + k + 4 ≡ 4 * (q - w + 1) + k = omega arith in
+      let ea : 4 * (q - w) + k - 4 ≡ 4 * (q - w - 1) + k = omega arith in
+      rw (el, et, er, ea, before (4 * (q - 1) + k) (omega arith), before (4 * (q - w) + k) (omega arith), before (4 * (q - w + 1) + k) (omega arith), before (4 * (q - w - 1) + k) (omega arith))
+
+  -- the prediction of pixel q, channel by channel
+  by-channel : around m w (pixels xs) q
+      ≡ pixel
+      (predict_byte m (pixels xs (q - 1)).red (pixels xs (q - w)).red (pixels xs (q - w + 1)).red (pixels xs (q - w - 1)).red)
+      (predict_byte m (pixels xs (q - 1)).green (pixels xs (q - w)).green (pixels xs (q - w + 1)).green (pixels xs (q - w - 1)).green)
+      (predict_byte m (pixels xs (q - 1)).blue (pixels xs (q - w)).blue (pixels xs (q - w + 1)).blue (pixels xs (q - w - 1)).blue)
+      (predict_byte m (pixels xs (q - 1)).alpha (pixels xs (q - w)).alpha (pixels xs (q - w + 1)).alpha (pixels xs (q - w - 1)).alpha)
+  by-channel = predict_channels m n (pixels xs (q - 1)) (pixels xs (q - w)) (pixels xs (q - w + 1)) (pixels xs (q - w - 1))
+
+  red-at : byte_around m (4 * w) (byte_at xs) (4 * q) ≡ (around m w (pixels xs) q).red
+  unfolding pixels
+  red-at = simp add-zero at (byte-at 0 (omega arith) xs (λ j l. refl)) ∙ ap (λ (v : Pixel). v.red) (sym by-channel)
+
+  green-at : (ys : List ℕ) → ((j : ℕ) → j < 4 * q → byte_at ys j ≡ byte_at xs j) → byte_around m (4 * w) (byte_at ys) (4 * q + 1) ≡ (around m w (pixels xs) q).green
+  unfolding pixels
+  green-at ys before = byte-at 1 (omega arith) ys before ∙ ap (λ (v : Pixel). v.green) (sym by-channel)
+
+  blue-at : (ys : List ℕ) → ((j : ℕ) → j < 4 * q → byte_at ys j ≡ byte_at xs j) → byte_around m (4 * w) (byte_at ys) (4 * q + 2) ≡ (around m w (pixels xs) q).blue
+  unfolding pixels
+  blue-at ys before = byte-at 2 (omega arith) ys before ∙ ap (λ (v : Pixel). v.blue) (sym by-channel)
+
+  alpha-at : (ys : List ℕ) → ((j : ℕ) → j < 4 * q → byte_at ys j ≡ byte_at xs j) → byte_around m (4 * w) (byte_at ys) (4 * q + 3) ≡ (around m w (pixels xs) q).alpha
+  unfolding pixels
+  alpha-at ys before = byte-at 3 (omega arith) ys before ∙ ap (λ (v : Pixel). v.alpha) (sym by-channel)
+
+  gained : Channels (byte_gains m (4 * w)) xs q (gains (around m w) (pixels xs) q)
+  unfolding byte_gains each pixels
+  gained =
       record {
-        red = rw (ea, eb);
-        green = λ ys before after. at 1 ys (omega arith) before after;
-        blue = λ ys before after. at 2 ys (omega arith) before after;
-        alpha = λ ys before after. at 3 ys (omega arith) before after;
+        red = rw red-at;
+        green = λ ys before after. rw (green-at ys before, after (4 * q + 1) (omega arith));
+        blue = λ ys before after. rw (blue-at ys before, after (4 * q + 2) (omega arith));
+        alpha = λ ys before after. rw (alpha-at ys before, after (4 * q + 3) (omega arith));
       }
-    where
-      at : (k : ℕ) (ys : List ℕ) → k < 4 → ((j : ℕ) → j < 4 * q → byte_at ys j ≡ byte_at xs j) → ((j : ℕ) → 4 * q + k ≤ j → byte_at ys j ≡ byte_at xs j)
-          → bytewise f (4 * a) (4 * b) (byte_at ys) (4 * q + k) ≡ add (byte_at xs (4 * q + k)) (f (byte_at xs (4 * (q - a) + k)) (byte_at xs (4 * (q - b) + k)))
-      at k ys l before after =
-          let ea : 4 * q + k - 4 * a ≡ 4 * (q - a) + k = omega arith in
-          let eb : 4 * q + k - 4 * b ≡ 4 * (q - b) + k = omega arith in
-          let i = after (4 * q + k) (omega arith) in
-          let x = before (4 * (q - a) + k) (omega arith) in
-          let y = before (4 * (q - b) + k) (omega arith) in
-          rw (ea, eb) (cc)
 
-  pub bytewise_pixels : (from n : ℕ) (xs : List ℕ) → a ≤ from → b ≤ from → run byte_cells (bytewise f (4 * a) (4 * b)) (4 * from) (4 * n) xs ≡ run pixel_cells pixelwise from n xs
-  bytewise_pixels from n xs la lb = pixels_bytes (bytewise f (4 * a) (4 * b)) pixelwise from xs n (λ q l u ys e. channels q (omega arith) (omega arith) ys)
+module _ (m w : ℕ) (n : Channelwise m) (wide : 2 ≤ w) where
+  -- rebuilding
+  pub bytes_gained : (from to : ℕ) (xs ys : List ℕ) → ys ≡ run byte_cells (byte_gains m (4 * w)) (4 * from) (4 * to - 4 * from) xs → w + 1 ≤ from
+      → ys ≡ run pixel_cells (gains (around m w)) from (to - from) xs
+  bytes_gained from to xs ys e off =
+      let k : 4 * to - 4 * from ≡ 4 * (to - from) = omega arith in
+      e ∙ rw k (pixels_bytes (byte_gains m (4 * w)) (gains (around m w)) from xs (to - from) (λ q a b zs c. gained m w n wide zs q (omega arith)))
 
--- a mode that predicts channel by channel from two pixels of the row above
-pub bytewise_mode : (m w : ℕ) (f : ℕ → ℕ → ℕ) (a b from to : ℕ) (xs ys : List ℕ)
-    → ys ≡ run byte_cells (bytewise f (4 * a) (4 * b)) (4 * from) (4 * to - 4 * from) xs
-    → ((p : ℕ → Pixel) (i : ℕ) → from ≤ i → around m w p i ≡ each f (p (i - a)) (p (i - b)))
-    → 1 ≤ a → 1 ≤ b → a ≤ from → b ≤ from → ys ≡ run pixel_cells (gains (around m w)) from (to - from) xs
-bytewise_mode m w f a b from to xs ys e h pa pb la lb =
-    let k : 4 * to - 4 * from ≡ 4 * (to - from) = omega arith in
-    e ∙ ap (λ (n : ℕ). run byte_cells (bytewise f (4 * a) (4 * b)) (4 * from) n xs) k
-    ∙ bytewise_pixels f a b pa pb from (to - from) xs la lb
-    ∙ run_same pixel_cells pixel_lawful (pixelwise f a b pa pb) (gains (around m w)) from xs (to - from) (λ i l u zs x y. ap (each add (pixels zs i)) (sym (h (pixels zs) i l)))
+  -- storing
+  module _ (rows : List ℕ) where
+    lost : (x : ℕ) → 1 ≤ x → (xs : List ℕ) → Channels (given (byte_residual m (4 * w) (byte_at rows))) xs x (given (residual (around m w) w (pixels rows)) (pixels xs) x)
+    unfolding given byte_residual each pixels
+    lost x off xs =
+        let q = w + x in
+        let l : w + 1 ≤ q = omega arith in
+        let r : 4 * w + 4 * x ≡ 4 * q = omega arith in
+        let g : 4 * w + (4 * x + 1) ≡ 4 * q + 1 = omega arith in
+        let b : 4 * w + (4 * x + 2) ≡ 4 * q + 2 = omega arith in
+        let a : 4 * w + (4 * x + 3) ≡ 4 * q + 3 = omega arith in
+        record {
+          red = rw (r, red-at m w n wide rows q l);
+          green = λ ys before after. rw (g, green-at m w n wide rows q l rows (λ j u. refl));
+          blue = λ ys before after. rw (b, blue-at m w n wide rows q l rows (λ j u. refl));
+          alpha = λ ys before after. rw (a, alpha-at m w n wide rows q l rows (λ j u. refl));
+        }
 
-module _ (w : ℕ) (p : ℕ → Pixel) (i : ℕ) where
-  pub top_2 : around 2 w p i ≡ each first (p (i - w)) (p (i - w))
-  unfolding predict each
-  top_2 = refl
-
-  pub top_right_3 : 2 ≤ w → w + 1 ≤ i → around 3 w p i ≡ each first (p (i - (w - 1))) (p (i - (w - 1)))
-  unfolding predict each
-  top_right_3 h l = let e : i - (w - 1) ≡ i - w + 1 = omega arith in rw e
-
-  pub top_left_4 : around 4 w p i ≡ each first (p (i - (w + 1))) (p (i - (w + 1)))
-  unfolding predict each
-  top_left_4 = let e : i - (w + 1) ≡ i - w - 1 = omega arith in rw e
-
-  pub average_8 : around 8 w p i ≡ each avg (p (i - (w + 1))) (p (i - w))
-  unfolding predict
-  average_8 = let e : i - (w + 1) ≡ i - w - 1 = omega arith in rw e
-
-  pub average_9 : 2 ≤ w → w + 1 ≤ i → around 9 w p i ≡ each avg (p (i - w)) (p (i - (w - 1)))
-  unfolding predict
-  average_9 h l = let e : i - (w - 1) ≡ i - w + 1 = omega arith in rw e
+    pub bytes_lost : (from to : ℕ) (xs ys : List ℕ) → ys ≡ run byte_cells (given (byte_residual m (4 * w) (byte_at rows))) (4 * from) (4 * to - 4 * from) xs → 1 ≤ from
+        → ys ≡ run pixel_cells (given (residual (around m w) w (pixels rows))) from (to - from) xs
+    bytes_lost from to xs ys e off =
+        let k : 4 * to - 4 * from ≡ 4 * (to - from) = omega arith in
+        e ∙ rw k (pixels_bytes (given (byte_residual m (4 * w) (byte_at rows))) (given (residual (around m w) w (pixels rows))) from xs (to - from) (λ q a b zs c. lost q (omega arith) zs))

@@ -1,9 +1,6 @@
 pub mod Modes
-pub mod Turn
-pub mod Ahead
 pub mod Bytewise
 pub mod Blocks
 pub mod Rows
-pub mod Residuals
 pub mod StoredRows
 pub mod Choice

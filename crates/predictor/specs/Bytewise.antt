@@ -1,20 +1,12 @@
 -- Predictions byte by byte: what loops over bytes compute.
-use Rattle.std.specs.Prelude.{◌≡◌, ℕ, ◌+◌, ◌-◌, ◌≤◌, List, [], ◌∷◌, length, slice_index_or}
+use Rattle.std.specs.Prelude.{◌≡◌, ℕ, ◌+◌, ◌-◌, [], ◌∷◌, slice_index_or}
 use Rattle.format.specs.Byte.{add, sub, avg, clamp_full, clamp_half}
-use Rattle.format.specs.Picture.{byte_at}
-use Rattle.pixel.specs.Cells.{Rule, byte_cells, run, given}
+use Rattle.pixel.specs.Cells.{Rule}
 
--- the first of two bytes
-abbrev pub first : ℕ → ℕ → ℕ
-first x y = x
-
--- a byte gains a function of two bytes that stand before it
-abbrev pub bytewise : (ℕ → ℕ → ℕ) → ℕ → ℕ → Rule ℕ
-bytewise f a b p i = add (p i) (f (p (i - a)) (p (i - b)))
-
--- the bytes from `from` up to `to` do
-abbrev pub bytes_gained : (ℕ → ℕ → ℕ) → ℕ → ℕ → ℕ → ℕ → List ℕ → List ℕ
-bytes_gained f a b from to rows = run byte_cells (bytewise f a b) from (to - from) rows
+-- the mode goes channel by channel
+pub record Channelwise (m : ℕ) : Type 0 where
+  pub not_black : m ≡ 0 → ⊥
+  pub not_select : m ≡ 11 → ⊥
 
 -- what a mode predicts in each channel; modes 0 and 11 do not go channel by channel and stand here as 0
 unfoldable pub predict_byte : ℕ → ℕ → ℕ → ℕ → ℕ → ℕ
@@ -37,14 +29,14 @@ predict_byte m l t tr tl =
     ∷ [])
     m 0
 
--- byte i of a row loses its prediction, where r holds the row above and then the row, s bytes each
+-- the prediction of byte i from its neighbors, in rows of s bytes
+unfoldable pub byte_around : ℕ → ℕ → Rule ℕ
+byte_around m s p i = predict_byte m (p (i - 4)) (p (i - s)) (p (i - s + 4)) (p (i - s - 4))
+
+-- rebuilding: a byte gains it
+unfoldable pub byte_gains : ℕ → ℕ → Rule ℕ
+byte_gains m s p i = add (p i) (byte_around m s p i)
+
+-- storing: byte i of a row loses it, where r holds the row above and then the row
 unfoldable pub byte_residual : ℕ → ℕ → (ℕ → ℕ) → ℕ → ℕ
-byte_residual m s r i = sub (r (s + i)) (predict_byte m (r (s + i - 4)) (r i) (r (i + 4)) (r (i - 4)))
-
--- the bytes from `from` up to `to` do, into out
-abbrev pub bytes_lost : ℕ → ℕ → List ℕ → ℕ → ℕ → List ℕ → List ℕ
-bytes_lost m s rows from to out = run byte_cells (given (byte_residual m s (byte_at rows))) from (to - from) out
-
--- these bytes are off the first pixel, and have room in the row that is stored
-abbrev pub ByteColumns : ℕ → ℕ → ℕ → List ℕ → List ℕ → Type 0
-ByteColumns s from to rows out = (4 ≤ from) × (from ≤ to) × (to ≤ s) × (length rows ≡ s + s) × (to ≤ length out)
+byte_residual m s r i = sub (r (s + i)) (byte_around m s r (s + i))

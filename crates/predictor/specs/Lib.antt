@@ -1,5 +1,4 @@
 -- What the contracts of `predictor` cite beside the definitions of `format`.
 pub mod Row
 pub mod Bytewise
-pub mod Ahead
 pub mod Picture

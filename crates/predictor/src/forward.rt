@@ -7,7 +7,8 @@ ghost use Rattle.predictor.specs.Picture.{FirstStored, RowStored};
 
 use format::Pixel;
 use pixel::block::subsample_size;
-use pixel::pixel::{pixel_at, put_pixel, subtract_pixels};
+use pixel::pixel::{BLACK, pixel_at, put_pixel, subtract_pixels};
+use pixel::replace::replace;
 
 fn left_residual(row: &[u8], x: usize) -> Pixel
     requires { (1 ≤ x) × (4 * x + 4 ≤ length row.now) }
@@ -21,12 +22,7 @@ fn store_left(row: &[u8], out: &mut [u8], width: usize)
     requires { (1 ≤ width) × (4 * width ≤ length row.now) × (4 * width ≤ length out.old) }
     ensures { out.new ≡ left_lost width row.now out.old }
 {
-    let mut x = 1;
-    while x < width {
-        let v = left_residual(row, x);
-        put_pixel(out, x, v);
-        x += 1;
-    }
+    replace(out, 1, width, |_: &[u8], x: usize| left_residual(row, x));
 }
 
 // Row 0, whatever the blocks: the first pixel loses black.
@@ -34,13 +30,7 @@ fn store_first_row(row: &[u8], out: &mut [u8], width: usize)
     requires { (1 ≤ width) × (4 * width ≤ length row.now) × (4 * width ≤ length out.old) }
     ensures { FirstStored width row.now out.new }
 {
-    let black = Pixel {
-        red: 0,
-        green: 0,
-        blue: 0,
-        alpha: 255,
-    };
-    let first = subtract_pixels(pixel_at(row, 0), black);
+    let first = subtract_pixels(pixel_at(row, 0), BLACK);
     put_pixel(out, 0, first);
     store_left(row, out, width);
 }

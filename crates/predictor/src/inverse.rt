@@ -3,9 +3,8 @@ ghost use Rattle.std.specs.Prelude.{◌≡◌, ◌*◌, ◌<◌, ◌≤◌, leng
 ghost use Rattle.format.specs.Sizes.{Sized, Holds, Blocked};
 ghost use Rattle.predictor.specs.Picture.{predictor_row, FirstRebuilt};
 
-use crate::left::apply_predictor_transform_1;
 use crate::row::rebuild_row;
-use crate::segment::apply_predictor_transform_0;
+use crate::segment::{apply_predictor_transform_0, apply_predictor_transform_1};
 use pixel::block::subsample_size;
 
 // Row 0, whatever its blocks say: the first pixel as mode 0, the rest as L.
@@ -13,8 +12,8 @@ fn rebuild_first_row(row: &mut [u8], width: usize)
     requires { (1 ≤ width) × (4 * width ≤ length row.old) }
     ensures { FirstRebuilt width row.old row.new }
 {
-    apply_predictor_transform_0(row, width, 0, 1);
-    apply_predictor_transform_1(row, width, 1, width);
+    apply_predictor_transform_0(row, 0, 1);
+    apply_predictor_transform_1(row, 1, width);
 }
 
 // A row off the first.

@@ -1,9 +1,10 @@
 // The predictor transform, a row at a time.
 #![tactic(auto)]
 
+mod bytes;
 pub mod forward;
 pub mod inverse;
-mod left;
+pub mod mode;
 mod residual;
 mod row;
 mod segment;

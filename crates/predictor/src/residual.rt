@@ -4,169 +4,47 @@
 ghost use Rattle.std.specs.Prelude.{◌≡◌, ◌+◌, ◌-◌, ◌*◌, ◌<◌, ◌≤◌, length};
 ghost use Rattle.format.specs.Picture.{byte_at, pixels};
 ghost use Rattle.predictor.specs.Row.{around, residual, lost_by, InColumns};
-ghost use Rattle.predictor.specs.Bytewise.{predict_byte, byte_residual};
-ghost use Rattle.predictor.specs.Bytewise.{bytes_lost, ByteColumns};
+ghost use Rattle.predictor.specs.Bytewise.{Channelwise, byte_residual};
 
+use crate::bytes::byte_around;
 use format::Pixel;
-use pixel::byte::{average2, average4, clamp_add_subtract_full, clamp_add_subtract_half};
-use pixel::pixel::{pixel_at, put_pixel, select, subtract_pixels};
-use pixel::word::{read_pixel, write_pixel};
-use std::num::wrapping_sub_u8;
+use pixel::pixel::{BLACK, pixel_at, put_pixel, select, subtract_pixels};
+use pixel::replace::replace;
+use pixel::word::Word;
 
-fn predict_byte(mode: u8, l: u8, t: u8, tr: u8, tl: u8) -> u8
-    ensures { result ≡ predict_byte mode l t tr tl }
+fn store_bytes<const MODE: u8>(rows: &[u8], out: &mut [u8], w: usize, from: usize, to: usize)
+    requires channelwise { Channelwise MODE }
+    requires in_columns { InColumns w from to rows.now out.old }
+    ensures { out.new ≡ lost_by (around MODE w) w rows.now from to out.old }
 {
-    match mode {
-        0 => 0,
-        1 => l,
-        2 => t,
-        3 => tr,
-        4 => tl,
-        5 => average2(average2(l, tr), t),
-        6 => average2(l, tl),
-        7 => average2(l, t),
-        8 => average2(tl, t),
-        9 => average2(t, tr),
-        10 => average4(l, tl, t, tr),
-        11 => 0,
-        12 => clamp_add_subtract_full(l, t, tl),
-        13 => clamp_add_subtract_half(l, t, tl),
-        _ => 0,
-    }
-}
-
-fn byte_residual(rows: &[u8], mode: u8, stride: usize, i: usize) -> u8
-    requires { (4 ≤ i) × (i < stride) × (length rows.now ≡ stride + stride) }
-    ensures { result ≡ byte_residual mode stride (byte_at rows.now) i }
-{
-    let l = rows[stride + i - 4];
-    let t = rows[i];
-    let tr = rows[i + 4];
-    let tl = rows[i - 4];
-    wrapping_sub_u8(rows[stride + i], predict_byte(mode, l, t, tr, tl))
-}
-
-// Bytes from `from` up to `to`. Each caller but the last arm of `store_segment` passes its mode as a constant, so that
-// the compiler makes a loop for that mode.
-fn store_bytes(rows: &[u8], out: &mut [u8], mode: u8, stride: usize, from: usize, to: usize)
-    requires { ByteColumns stride from to rows.now out.old }
-    ensures { out.new ≡ bytes_lost mode stride rows.now from to out.old }
-{
-    let mut i = from;
-    while i < to {
-        out[i] = byte_residual(rows, mode, stride, i);
-        i += 1;
-    }
-}
-
-fn store_1(rows: &[u8], out: &mut [u8], stride: usize, from: usize, to: usize)
-    requires { ByteColumns stride from to rows.now out.old }
-    ensures { out.new ≡ bytes_lost 1 stride rows.now from to out.old }
-{
-    store_bytes(rows, out, 1, stride, from, to);
-}
-
-fn store_2(rows: &[u8], out: &mut [u8], stride: usize, from: usize, to: usize)
-    requires { ByteColumns stride from to rows.now out.old }
-    ensures { out.new ≡ bytes_lost 2 stride rows.now from to out.old }
-{
-    store_bytes(rows, out, 2, stride, from, to);
-}
-
-fn store_3(rows: &[u8], out: &mut [u8], stride: usize, from: usize, to: usize)
-    requires { ByteColumns stride from to rows.now out.old }
-    ensures { out.new ≡ bytes_lost 3 stride rows.now from to out.old }
-{
-    store_bytes(rows, out, 3, stride, from, to);
-}
-
-fn store_4(rows: &[u8], out: &mut [u8], stride: usize, from: usize, to: usize)
-    requires { ByteColumns stride from to rows.now out.old }
-    ensures { out.new ≡ bytes_lost 4 stride rows.now from to out.old }
-{
-    store_bytes(rows, out, 4, stride, from, to);
-}
-
-fn store_5(rows: &[u8], out: &mut [u8], stride: usize, from: usize, to: usize)
-    requires { ByteColumns stride from to rows.now out.old }
-    ensures { out.new ≡ bytes_lost 5 stride rows.now from to out.old }
-{
-    store_bytes(rows, out, 5, stride, from, to);
-}
-
-fn store_6(rows: &[u8], out: &mut [u8], stride: usize, from: usize, to: usize)
-    requires { ByteColumns stride from to rows.now out.old }
-    ensures { out.new ≡ bytes_lost 6 stride rows.now from to out.old }
-{
-    store_bytes(rows, out, 6, stride, from, to);
-}
-
-fn store_7(rows: &[u8], out: &mut [u8], stride: usize, from: usize, to: usize)
-    requires { ByteColumns stride from to rows.now out.old }
-    ensures { out.new ≡ bytes_lost 7 stride rows.now from to out.old }
-{
-    store_bytes(rows, out, 7, stride, from, to);
-}
-
-fn store_8(rows: &[u8], out: &mut [u8], stride: usize, from: usize, to: usize)
-    requires { ByteColumns stride from to rows.now out.old }
-    ensures { out.new ≡ bytes_lost 8 stride rows.now from to out.old }
-{
-    store_bytes(rows, out, 8, stride, from, to);
-}
-
-fn store_9(rows: &[u8], out: &mut [u8], stride: usize, from: usize, to: usize)
-    requires { ByteColumns stride from to rows.now out.old }
-    ensures { out.new ≡ bytes_lost 9 stride rows.now from to out.old }
-{
-    store_bytes(rows, out, 9, stride, from, to);
-}
-
-fn store_10(rows: &[u8], out: &mut [u8], stride: usize, from: usize, to: usize)
-    requires { ByteColumns stride from to rows.now out.old }
-    ensures { out.new ≡ bytes_lost 10 stride rows.now from to out.old }
-{
-    store_bytes(rows, out, 10, stride, from, to);
-}
-
-fn store_12(rows: &[u8], out: &mut [u8], stride: usize, from: usize, to: usize)
-    requires { ByteColumns stride from to rows.now out.old }
-    ensures { out.new ≡ bytes_lost 12 stride rows.now from to out.old }
-{
-    store_bytes(rows, out, 12, stride, from, to);
-}
-
-fn store_13(rows: &[u8], out: &mut [u8], stride: usize, from: usize, to: usize)
-    requires { ByteColumns stride from to rows.now out.old }
-    ensures { out.new ≡ bytes_lost 13 stride rows.now from to out.old }
-{
-    store_bytes(rows, out, 13, stride, from, to);
+    let stride = 4 * w;
+    replace(
+        out,
+        4 * from,
+        4 * to,
+        |_: &[u8], i: usize| -> u8
+            requires { (8 ≤ stride) × (4 ≤ i) × (i < stride) × (length rows.now ≡ stride + stride) }
+            ensures { result ≡ byte_residual MODE stride (byte_at rows.entry.now) i }
+        {
+            let j = stride + i;
+            rows[j].wrapping_sub(byte_around::<MODE>(rows, stride, j))
+        },
+    );
 }
 
 // Modes 0 and 11, pixel by pixel.
-fn residual_0(rows: &[u8], w: usize, x: usize) -> Pixel
+fn residual_0(rows: &[u8], w: usize, x: usize) -> Word
     requires { 4 * (w + x) + 4 ≤ length rows.now }
     ensures { result ≡ residual (around 0 w) w (pixels rows.now) x }
 {
-    let black = Pixel {
-        red: 0,
-        green: 0,
-        blue: 0,
-        alpha: 255,
-    };
-    subtract_pixels(read_pixel(rows, w + x), black)
+    Word::from(subtract_pixels(Pixel::from(Word::at(rows, w + x)), BLACK))
 }
 
-pub fn store_0(rows: &[u8], out: &mut [u8], w: usize, from: usize, to: usize)
+fn store_0(rows: &[u8], out: &mut [u8], w: usize, from: usize, to: usize)
     requires { (from ≤ to) × (4 * (w + to) ≤ length rows.now) × (4 * to ≤ length out.old) }
     ensures { out.new ≡ lost_by (around 0 w) w rows.now from to out.old }
 {
-    let mut x = from;
-    while x < to {
-        let v = residual_0(rows, w, x);
-        write_pixel(out, x, v);
-        x += 1;
-    }
+    replace(out, from, to, |_: &[u8], x: usize| residual_0(rows, w, x));
 }
 
 fn residual_11(rows: &[u8], w: usize, x: usize) -> Pixel
@@ -180,41 +58,37 @@ fn residual_11(rows: &[u8], w: usize, x: usize) -> Pixel
     subtract_pixels(pixel_at(rows, i), select(l, t, tl))
 }
 
+// By `replace` this loop takes twice as long.
 fn store_11(rows: &[u8], out: &mut [u8], w: usize, from: usize, to: usize)
     requires { InColumns w from to rows.now out.old }
     ensures { out.new ≡ lost_by (around 11 w) w rows.now from to out.old }
 {
-    let mut x = from;
-    while x < to {
+    for x in from..to {
         let v = residual_11(rows, w, x);
         put_pixel(out, x, v);
-        x += 1;
     }
 }
 
-// The columns from `from` up to `to`, by their mode.
+// The columns from `from` up to `to`, by their mode; modes 14 to 255 predict zero, as 14 does.
 pub fn store_segment(rows: &[u8], out: &mut [u8], mode: u8, w: usize, from: usize, to: usize)
     requires { InColumns w from to rows.now out.old }
     ensures { out.new ≡ lost_by (around mode w) w rows.now from to out.old }
 {
-    let s = 4 * w;
-    let a = 4 * from;
-    let b = 4 * to;
     match mode {
         0 => store_0(rows, out, w, from, to),
-        1 => store_1(rows, out, s, a, b),
-        2 => store_2(rows, out, s, a, b),
-        3 => store_3(rows, out, s, a, b),
-        4 => store_4(rows, out, s, a, b),
-        5 => store_5(rows, out, s, a, b),
-        6 => store_6(rows, out, s, a, b),
-        7 => store_7(rows, out, s, a, b),
-        8 => store_8(rows, out, s, a, b),
-        9 => store_9(rows, out, s, a, b),
-        10 => store_10(rows, out, s, a, b),
+        1 => store_bytes::<1>(rows, out, w, from, to),
+        2 => store_bytes::<2>(rows, out, w, from, to),
+        3 => store_bytes::<3>(rows, out, w, from, to),
+        4 => store_bytes::<4>(rows, out, w, from, to),
+        5 => store_bytes::<5>(rows, out, w, from, to),
+        6 => store_bytes::<6>(rows, out, w, from, to),
+        7 => store_bytes::<7>(rows, out, w, from, to),
+        8 => store_bytes::<8>(rows, out, w, from, to),
+        9 => store_bytes::<9>(rows, out, w, from, to),
+        10 => store_bytes::<10>(rows, out, w, from, to),
         11 => store_11(rows, out, w, from, to),
-        12 => store_12(rows, out, s, a, b),
-        13 => store_13(rows, out, s, a, b),
-        _ => store_bytes(rows, out, mode, s, a, b),
+        12 => store_bytes::<12>(rows, out, w, from, to),
+        13 => store_bytes::<13>(rows, out, w, from, to),
+        _ => store_bytes::<14>(rows, out, w, from, to),
     }
 }

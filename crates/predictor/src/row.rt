@@ -1,5 +1,5 @@
 // A row off the first: `rows` is the part of the picture that holds the row above and then the row, and `blocks` the
-// data pixels of the row's blocks.
+// data pixels of the row's blocks. `width`, `bits` and `blocks` are no struct: each contract names all three.
 ghost use Rattle.std.specs.Prelude.{◌≡◌, ◌+◌, ◌-◌, ◌*◌, ◌/◌, ◌^◌, ◌<◌, ◌≤◌, length};
 ghost use Rattle.format.specs.Picture.{pixels};
 ghost use Rattle.pixel.specs.Blocks.{BlockedRow, BlockEnd};
@@ -41,6 +41,7 @@ pub fn rebuild_row(rows: &mut [u8], width: usize, bits: u32, blocks: &[u8])
     let first = add_pixels(pixel_at(rows, width), pixel_at(rows, 0));
     put_pixel(rows, width, first);
     let mut x = 1;
+    // A turn goes to the end of a block.
     while x < width {
         x = rebuild_block(rows, width, bits, blocks, x);
     }
@@ -77,6 +78,7 @@ pub fn store_row(rows: &[u8], out: &mut [u8], width: usize, bits: u32, blocks: &
     let first = subtract_pixels(pixel_at(rows, width), pixel_at(rows, 0));
     put_pixel(out, 0, first);
     let mut x = 1;
+    // A turn goes to the end of a block.
     while x < width {
         x = store_block(rows, out, width, bits, blocks, x);
     }

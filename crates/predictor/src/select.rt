@@ -1,6 +1,6 @@
 // Mode 11 rebuilt in place. Which neighbor the next pixel takes is worked out for both values that this pixel can have,
 // so that the sum of distances does not wait for this pixel's choice, and no choice is a branch.
-ghost use Rattle.std.specs.Prelude.{◌≡◌, ◌+◌, ◌-◌, nat_lt, if◌then◌else◌};
+ghost use Rattle.std.specs.Prelude.{◌≡◌, ◌+◌, ◌-◌, ◌*◌, ◌≤◌, length, nat_lt, if◌then◌else◌};
 ghost use Rattle.format.specs.Byte.{add};
 ghost use Rattle.format.specs.Pixel.{each};
 ghost use Rattle.format.specs.Picture.{pixels};
@@ -17,6 +17,7 @@ struct Turn {
     near: bool,
 }
 
+// Where `choose` has this choice itself, it becomes a branch, and the loop takes four times as long.
 fn pick_bool(near: bool, a: bool, b: bool) -> bool
     ensures { result ≡ (if near then a else b) }
 {
@@ -51,7 +52,7 @@ fn turn_11(rows: &[u8], w: usize, i: usize, left: Pixel, near: bool) -> Turn
 }
 
 fn left_nearer(rows: &[u8], w: usize, i: usize) -> bool
-    requires { Inside w i rows.now }
+    requires { (2 ≤ w) × (w + 1 ≤ i) × (4 * i ≤ length rows.now) }
     ensures { result ≡ left_nearer w (pixels rows.now) i }
 {
     let tl = pixel_at(rows, i - w - 1);
@@ -62,17 +63,12 @@ pub fn apply_predictor_transform_11(rows: &mut [u8], w: usize, from: usize, to: 
     requires { Segment w from to rows.old }
     ensures { rows.new ≡ gained_by (around 11 w) from to rows.old }
 {
-    if to <= from {
-        return;
-    }
     let mut left = pixel_at(rows, from - 1);
     let mut near = left_nearer(rows, w, from);
-    let mut i = from;
-    while i < to {
+    for i in from..to {
         let turn = turn_11(rows, w, i, left, near);
         left = turn.pixel;
         near = turn.near;
         put_pixel(rows, i, left);
-        i += 1;
     }
 }

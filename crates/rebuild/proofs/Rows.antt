@@ -11,7 +11,7 @@ use Rattle.format.specs.Picture.{Picture, pixels}
 use Rattle.format.specs.Predictor.{gained}
 use Rattle.format.specs.Color.{inverse_color, color_rebuilt}
 use Rattle.format.specs.SubtractGreen.{add_green, green_rebuilt}
-use Rattle.format.specs.ColorTable.{per_pixel, entry, unpacked}
+use Rattle.format.specs.ColorTable.{unpacked}
 use Rattle.format.specs.Stages.{data_of, part_of}
 use Rattle.format.proofs.ByKind.{kinds, by_kind_0, by_kind_1, by_kind_2, by_kind_3, backward_0, backward_1, backward_2, backward_3}
 use Rattle.pixel.specs.Cells.{Rule, pixel_cells, run, given}
@@ -22,16 +22,11 @@ use Rattle.predictor.specs.Picture.{predictor_row}
 use Rattle.color.specs.Row.{pointwise, everywhere, in_picture, color_row}
 use Rattle.color.proofs.Pointwise.{pointwise_written}
 use Rattle.color_table.proofs.Rows.{rows_turn}
-use Rattle.color_table.specs.Table.{ColumnsOf}
-use Rattle.rebuild.specs.Rows.{Ready, ColumnsFor, row_rule, row_rebuilt, rows_rebuilt, undone}
+use Rattle.rebuild.specs.Rows.{Ready, row_rule, row_rebuilt, rows_rebuilt, undone}
 
 -- the buffer keeps its length
 pub still : (s : Step) (h : ℕ) (ds xs₀ xs : List ℕ) → Ready s h ds xs₀ → length xs ≡ length xs₀ → Ready s h ds xs
 still s h ds xs₀ xs r e = record { sized = r.sized; valid = r.valid; room = rw e r.room }
-
--- the columns of a table that stands in the record's part
-pub columns_part : (s : Step) (ds part c : List ℕ) → part ≡ data_of s ds → ColumnsOf (per_pixel s.size) (entry s.size (pixels part)) c → ColumnsFor s ds c
-columns_part s ds part c e q k = rw e at q
 
 -- the rule of each kind
 

@@ -1,5 +1,5 @@
 -- One record undone row by row. s is the record, ds the data.
-use Rattle.std.specs.Prelude.{List, ◌≡◌, ℕ, ◌-◌, ◌*◌, length}
+use Rattle.std.specs.Prelude.{List, ℕ, ◌-◌, ◌*◌, length}
 use Rattle.format.specs.declared.Step.{Step}
 use Rattle.format.specs.declared.Pixel.{Pixel}
 use Rattle.format.specs.Picture.{Picture, pixels, written}
@@ -8,14 +8,13 @@ use Rattle.format.specs.ValidStep.{ValidStep}
 use Rattle.format.specs.Predictor.{gained}
 use Rattle.format.specs.Color.{inverse_color}
 use Rattle.format.specs.SubtractGreen.{add_green}
-use Rattle.format.specs.ColorTable.{per_pixel, entry, unpacked}
+use Rattle.format.specs.ColorTable.{unpacked}
 use Rattle.format.specs.Chain.{by_kind}
 use Rattle.format.specs.Stages.{part_of, backward}
 use Rattle.pixel.specs.Cells.{Rule, pixel_cells, run, given}
 use Rattle.color.specs.Row.{pointwise, everywhere, in_picture}
 use Rattle.chain.specs.declared.Chain.{Chain}
 use Rattle.chain.specs.Valid.{steps_of}
-use Rattle.color_table.specs.Table.{ColumnsOf}
 
 -- a record of a valid chain, and a buffer that has room for its picture, h rows
 pub record Ready (s : Step) (h : ℕ) (ds xs : List ℕ) : Type 0 where
@@ -38,10 +37,6 @@ rows_rebuilt s ds a b xs = run pixel_cells (row_rule s ds (pixels xs)) (a * s.wi
 -- row y rebuilt
 abbrev pub row_rebuilt : Step → List ℕ → ℕ → List ℕ → List ℕ
 row_rebuilt s ds y xs = run pixel_cells (row_rule s ds (pixels xs)) (y * s.width) s.width xs
-
--- the columns of every byte, where the record is a table's
-abbrev pub ColumnsFor : Step → List ℕ → List ℕ → Type 0
-ColumnsFor s ds c = s.kind ≡ 3 → ColumnsOf (per_pixel s.size) (entry s.size (part_of s ds)) c
 
 -- the whole record undone
 abbrev pub undone : Step → ℕ → List ℕ → List ℕ → List ℕ

@@ -1,39 +1,42 @@
 // Rebuilding a picture in one buffer whose front holds the strip: each record is undone, last record first, row by row.
 #![tactic(auto)]
 
-pub mod row;
+mod row;
 
 ghost use Rattle.std.specs.Prelude.{◌≡◌, ◌<◌};
+ghost use Rattle.format.specs.Refusals.{returned};
 ghost use Rattle.format.specs.Calls.{rebuild_answer, rebuild_image};
 ghost use Rattle.chain.specs.Valid.{Valid, HoldsPicture};
-ghost use Rattle.rebuild.specs.Rows.{Ready, ColumnsFor, rows_rebuilt, undone, record_undone};
+ghost use Rattle.rebuild.specs.Rows.{Ready, rows_rebuilt, undone, record_undone};
 
-use crate::row::{columns_for, rebuild_row};
-use chain::{Chain, read_chain};
-use format::Step;
+use crate::row::rebuild_row;
+use chain::{Chain, part_of, read_chain};
+use color_table::table::columns_of_table;
+use color_table::unpack::unpack_row_at;
+use format::{Refusal, Step, TransformType};
+use pixel::stride::{Expanded, packed_width};
 
 // All rows, from the top: a row is predicted from the row above it.
-fn rebuild_down(s: Step, height: usize, data: &[u8], columns: &[u8; 8192], image: &mut [u8])
-    requires { Ready s height «data».now image.old × ColumnsFor s «data».now columns.now
-        × (s.kind ≡ 3 → ⊥) }
+fn rebuild_down(s: Step, height: usize, data: &[u8], image: &mut [u8])
+    requires { Ready s height «data».now image.old × (s.kind ≡ 3 → ⊥) }
     ensures { image.new ≡ rows_rebuilt s «data».now 0 height image.old }
 {
-    let mut y = 0;
-    while y < height {
-        rebuild_row(s, y, height, data, columns, image);
-        y += 1;
+    for y in 0..height {
+        rebuild_row(s, y, height, data, image);
     }
 }
 
-// All rows, from the bottom: a row's columns may lie where packed pixels of the rows above it stand.
-fn rebuild_up(s: Step, height: usize, data: &[u8], columns: &[u8; 8192], image: &mut [u8])
-    requires { Ready s height «data».now image.old × ColumnsFor s «data».now columns.now × (s.kind ≡ 3) }
+// A table's rows, from the bottom: a row's columns may lie where packed pixels of the rows above it stand. What they
+// are looked up in is made once for all of them.
+fn unpack_up(s: Step, height: usize, data: &[u8], image: &mut [u8])
+    requires { Ready s height «data».now image.old × (s.kind ≡ 3) }
     ensures { image.new ≡ rows_rebuilt s «data».now 0 height image.old }
 {
-    let mut y = height;
-    while 0 < y {
-        rebuild_row(s, y - 1, height, data, columns, image);
-        y -= 1;
+    let columns = columns_of_table(part_of(data, s), s.size);
+    let expanded = Expanded(s.width);
+    let packed = packed_width(expanded, s.size);
+    for y in (0..height).rev() {
+        unpack_row_at(image, y, packed, expanded, s.size, &columns);
     }
 }
 
@@ -41,11 +44,10 @@ fn undo_step(s: Step, height: usize, data: &[u8], image: &mut [u8])
     requires { Ready s height «data».now image.old }
     ensures { image.new ≡ undone s height «data».now image.old }
 {
-    let columns = columns_for(s, height, data);
-    if s.kind == 3 {
-        rebuild_up(s, height, data, &columns, image);
+    if s.transform_type() == TransformType::ColorTable {
+        unpack_up(s, height, data, image);
     } else {
-        rebuild_down(s, height, data, &columns, image);
+        rebuild_down(s, height, data, image);
     }
 }
 
@@ -59,23 +61,23 @@ fn undo(chain: Chain, k: usize, data: &[u8], image: &mut [u8])
 }
 
 // Tests 1 to 8, then the records.
-pub fn rebuild(width: usize, height: usize, chain: &[u8], data: &[u8], image: &mut [u8]) -> u32
-    ensures value { result ≡ rebuild_answer width height chain.now «data».now image.old }
+pub fn rebuild(
+    width: usize,
+    height: usize,
+    chain: &[u8],
+    data: &[u8],
+    image: &mut [u8],
+) -> Result<(), Refusal>
+    ensures value { returned result ≡ rebuild_answer width height chain.now «data».now image.old }
     ensures image_after { image.new ≡ rebuild_image width height chain.now «data».now
         image.old }
 {
-    let read = read_chain(width, height, chain, data);
-    if read.refusal != 0 {
-        return read.refusal;
-    }
+    let read = read_chain(width, height, chain, data)?;
     if image.len() < 4 * (height * width) {
-        return 8;
+        return Err(Refusal::ShortBuffer);
     }
-    let count = read.count;
-    let mut k = count;
-    while 0 < k {
-        undo(read, k - 1, data, image);
-        k -= 1;
+    for k in (0..read.count).rev() {
+        undo(read, k, data, image);
     }
-    0
+    Ok(())
 }

@@ -1,12 +1,14 @@
 // A call of `letchwater` on a chain: the number, and every byte of the buffer that it writes.
 use crate::case::Call;
-use crate::outcome::{Outcome, not_undone};
-use letchwater::{letchwater_rebuild, letchwater_store};
+use crate::comparison::Comparison;
+use format::Refusal;
+use letchwater::{letchwater_rebuild, letchwater_store, number};
 
 // Nothing is undone here: storing has its own cases.
-fn compared(c: Call, answer: u32, buffer: &[u8], output: &[u8]) -> Outcome {
-    let same = buffer == output;
-    not_undone(answer == c.answer && same, answer != 0)
+fn compared(c: Call, outcome: Result<(), Refusal>, buffer: &[u8], output: &[u8]) -> Comparison {
+    let answer = number(outcome);
+    let same = *buffer == *output;
+    Comparison::not_undone(answer == c.answer && same, answer != 0)
 }
 
 pub fn replay_rebuild(
@@ -15,9 +17,9 @@ pub fn replay_rebuild(
     data: &[u8],
     image: &mut [u8],
     output: &[u8],
-) -> Outcome {
-    let answer = letchwater_rebuild(c.width, c.height, chain, data, image);
-    compared(c, answer, image, output)
+) -> Comparison {
+    let outcome = letchwater_rebuild(c.width, c.height, chain, data, image);
+    compared(c, outcome, image, output)
 }
 
 pub fn replay_store(
@@ -27,7 +29,7 @@ pub fn replay_store(
     picture: &[u8],
     strip: &mut [u8],
     output: &[u8],
-) -> Outcome {
-    let answer = letchwater_store(c.width, c.height, chain, data, picture, strip);
-    compared(c, answer, strip, output)
+) -> Comparison {
+    let outcome = letchwater_store(c.width, c.height, chain, data, picture, strip);
+    compared(c, outcome, strip, output)
 }

@@ -1,11 +1,49 @@
 // The header of a case, or a call of a list: 16 bytes, little-endian (oracle/src/list.rs).
 ghost use Rattle.std.specs.Prelude.{◌+◌, ◌<◌};
 
-// A transform by itself.
+use crate::failure::Failure;
+
+pub const KINDS: usize = 9;
+
+// Five transforms by themselves and four calls.
+#[derive(Clone, Copy, PartialEq, Eq)]
+pub enum Kind {
+    Predictor = 0,
+    Color = 1,
+    SubtractGreen = 2,
+    ColorTable = 3,
+    ColorMap = 4,
+    Rebuild = 5,
+    Store = 6,
+    Retouches = 7,
+    Reports = 8,
+}
+
+impl TryFrom<u8> for Kind {
+    type Error = Failure;
+
+    fn try_from(number: u8) -> Result<Kind, Failure> {
+        match number {
+            0 => Ok(Kind::Predictor),
+            1 => Ok(Kind::Color),
+            2 => Ok(Kind::SubtractGreen),
+            3 => Ok(Kind::ColorTable),
+            4 => Ok(Kind::ColorMap),
+            5 => Ok(Kind::Rebuild),
+            6 => Ok(Kind::Store),
+            7 => Ok(Kind::Retouches),
+            8 => Ok(Kind::Reports),
+            _ => Err(Failure::Malformed),
+        }
+    }
+}
+
+// A transform by itself, with the one record of its chain: the header has kind, bits, size and length where a record
+// has them, and the data starts at offset 0.
 #[derive(Clone, Copy)]
 pub struct Single {
-    pub transform: u8,
-    pub size: usize,
+    pub record: [u8; 16],
+    pub size: u16,
     pub width: u32,
     pub height: u32,
     pub data_len: usize,
@@ -15,7 +53,6 @@ pub struct Single {
 // A call of `letchwater` on a chain.
 #[derive(Clone, Copy)]
 pub struct Call {
-    pub call: u8,
     pub answer: u32,
     pub chain_len: usize,
     pub width: u32,
@@ -28,79 +65,76 @@ pub struct Call {
 // A list of reports.
 #[derive(Clone, Copy)]
 pub struct Reports {
-    pub calls: u32,
+    pub calls: u8,
     pub colors_len: usize,
     pub counters_len: usize,
 }
 
-fn wide(x: u8) -> u32
-    ensures { result < 256 }
-{
-    x as u32
-}
-
-fn two_bytes(header: &[u8; 16], at: usize) -> u32
-    requires { at + 1 < 16 }
-    ensures { result < 65536 }
-{
-    wide(header[at]) + 256 * wide(header[at + 1])
-}
-
-fn length_in_two(header: &[u8; 16], at: usize) -> usize
+fn u16_at(header: &[u8; 16], at: usize) -> u16
     requires { at + 1 < 16 }
 {
-    two_bytes(header, at) as usize
+    u16::from_le_bytes([header[at], header[at + 1]])
 }
 
-pub fn four_bytes(header: &[u8; 16], at: usize) -> u32
+pub fn u32_at(header: &[u8; 16], at: usize) -> u32
     requires { at + 3 < 16 }
 {
-    two_bytes(header, at) + 65536 * two_bytes(header, at + 2)
+    u32::from_le_bytes([header[at], header[at + 1], header[at + 2], header[at + 3]])
 }
 
-pub fn length_in_four(header: &[u8; 16], at: usize) -> usize
-    requires { at + 3 < 16 }
-{
-    four_bytes(header, at) as usize
-}
-
-pub fn single_of(header: &[u8; 16]) -> Single {
-    Single {
-        transform: header[0],
-        size: length_in_two(header, 2),
-        width: two_bytes(header, 4),
-        height: two_bytes(header, 6),
-        data_len: length_in_four(header, 8),
-        input_len: length_in_four(header, 12),
+impl From<&[u8; 16]> for Single {
+    fn from(header: &[u8; 16]) -> Single {
+        let [
+            kind,
+            bits,
+            size,
+            more,
+            _,
+            _,
+            _,
+            _,
+            length,
+            a,
+            b,
+            c,
+            _,
+            _,
+            _,
+            _,
+        ] = *header;
+        Single {
+            record: [
+                kind, bits, size, more, 0, 0, 0, 0, length, a, b, c, 0, 0, 0, 0,
+            ],
+            size: u16_at(header, 2),
+            width: u16_at(header, 4) as u32,
+            height: u16_at(header, 6) as u32,
+            data_len: u32_at(header, 8) as usize,
+            input_len: u32_at(header, 12) as usize,
+        }
     }
 }
 
-// A chain of one record for a transform by itself. The header has kind, bits, size and length where a record has them,
-// and the data starts at offset 0.
-pub fn record_of(header: &[u8; 16]) -> [u8; 16] {
-    [
-        header[0], header[1], header[2], header[3], 0, 0, 0, 0, header[8], header[9], header[10],
-        header[11], 0, 0, 0, 0,
-    ]
-}
-
-pub fn call_of(header: &[u8; 16]) -> Call {
-    Call {
-        call: header[0],
-        answer: wide(header[1]),
-        chain_len: length_in_two(header, 2),
-        width: two_bytes(header, 4),
-        height: two_bytes(header, 6),
-        data_len: length_in_two(header, 8),
-        output_len: length_in_two(header, 10),
-        input_len: length_in_four(header, 12),
+impl From<&[u8; 16]> for Call {
+    fn from(header: &[u8; 16]) -> Call {
+        Call {
+            answer: header[1] as u32,
+            chain_len: u16_at(header, 2) as usize,
+            width: u16_at(header, 4) as u32,
+            height: u16_at(header, 6) as u32,
+            data_len: u16_at(header, 8) as usize,
+            output_len: u16_at(header, 10) as usize,
+            input_len: u32_at(header, 12) as usize,
+        }
     }
 }
 
-pub fn reports_of(header: &[u8; 16]) -> Reports {
-    Reports {
-        calls: wide(header[1]),
-        colors_len: length_in_two(header, 2),
-        counters_len: length_in_two(header, 4),
+impl From<&[u8; 16]> for Reports {
+    fn from(header: &[u8; 16]) -> Reports {
+        Reports {
+            calls: header[1],
+            colors_len: u16_at(header, 2) as usize,
+            counters_len: u16_at(header, 4) as usize,
+        }
     }
 }

@@ -1,32 +1,28 @@
 // Parts of a case, read from the list.
-ghost use Rattle.std.specs.Prelude.{◌≡◌, ◌≤◌, IfOk, false, length};
+use crate::comparison::Comparison;
+use crate::failure::Failure;
+use std::io::Read;
 
-use crate::outcome::{Outcome, not_undone};
-use std::io;
-use std::io::{ErrorKind, Read};
+// A part's bytes are at most these.
+pub const MOST: usize = 16384;
 
-// Fills the first n bytes of the buffer. True where there is no room for them, or the list ends before.
-pub fn lacks_part(list: &mut impl Read, buffer: &mut [u8], n: usize) -> io::Result<bool>
-    ensures { IfOk result (λ lacks. lacks ≡ false → n ≤ length buffer.old) }
-{
-    if buffer.len() < n {
-        return Ok(true);
+// The next n bytes of the list, in the buffer's front.
+pub fn part<'a>(
+    list: &mut impl Read,
+    buffer: &'a mut [u8; MOST],
+    n: usize,
+) -> Result<&'a mut [u8], Failure> {
+    if MOST < n {
+        return Err(Failure::Malformed);
     }
-    match list.read_exact(&mut buffer[0..n]) {
-        Ok(()) => Ok(false),
-        Err(error) if error.kind() == ErrorKind::UnexpectedEof => Ok(true),
-        Err(error) => Err(error),
-    }
+    let part = &mut buffer[..n];
+    list.read_exact(part)?;
+    Ok(part)
 }
 
 // Every byte of the buffer beside the part that follows in the list.
-pub fn compare_part(list: &mut impl Read, buffer: &[u8]) -> io::Result<Outcome>
-    requires { length buffer.now ≤ 16384 }
-{
-    let mut after = [0u8; 16384];
-    let n = buffer.len();
-    if lacks_part(list, &mut after, n)? {
-        return Ok(Outcome::Malformed);
-    }
-    Ok(not_undone(buffer == &after[0..n], false))
+pub fn compare_part(list: &mut impl Read, buffer: &[u8]) -> Result<Comparison, Failure> {
+    let mut after = [0u8; MOST];
+    let after = part(list, &mut after, buffer.len())?;
+    Ok(Comparison::not_undone(*buffer == *after, false))
 }

@@ -1,9 +1,8 @@
 // A list of retouches, each on what the last one left: every answer.
-use crate::case::{Call, four_bytes};
-use crate::outcome::{Outcome, both, not_undone};
-use crate::parts::lacks_part;
-use letchwater::letchwater_retouch;
-use std::io;
+use crate::case::{Call, u32_at};
+use crate::comparison::Comparison;
+use crate::failure::Failure;
+use letchwater::{letchwater_retouch, retouch_number};
 use std::io::Read;
 
 // One call, which follows in the list in 16 bytes: column, row, color, answer.
@@ -14,26 +13,24 @@ fn replay_retouch(
     data: &[u8],
     picture: &mut [u8],
     strip: &mut [u8],
-) -> io::Result<Outcome> {
+) -> Result<Comparison, Failure> {
     let mut call = [0u8; 16];
-    if lacks_part(list, &mut call, 16)? {
-        return Ok(Outcome::Malformed);
-    }
-    let answer = letchwater_retouch(
+    list.read_exact(&mut call)?;
+    let answer = retouch_number(letchwater_retouch(
         c.width,
         c.height,
         chain,
         data,
         picture,
         strip,
-        four_bytes(&call, 0),
-        four_bytes(&call, 4),
+        u32_at(&call, 0),
+        u32_at(&call, 4),
         call[8],
         call[9],
         call[10],
         call[11],
-    );
-    Ok(not_undone(answer == four_bytes(&call, 12), answer < 256))
+    ));
+    Ok(Comparison::not_undone(answer == u32_at(&call, 12), answer < 256))
 }
 
 // The header has how many calls there are where other calls have their answer.
@@ -44,13 +41,10 @@ pub fn replay_retouches(
     data: &[u8],
     picture: &mut [u8],
     strip: &mut [u8],
-) -> io::Result<Outcome> {
-    let mut outcome = not_undone(true, false);
+) -> Result<Comparison, Failure> {
+    let mut so_far = Comparison::not_undone(true, false);
     for _ in 0..c.answer {
-        outcome = both(
-            outcome,
-            replay_retouch(list, c, chain, data, picture, strip)?,
-        );
+        so_far = so_far.and(replay_retouch(list, c, chain, data, picture, strip)?);
     }
-    Ok(outcome)
+    Ok(so_far)
 }

@@ -1,55 +1,95 @@
-// Counts of each kind of case, five transforms and four calls, and the lines that give them.
+// Counts of each kind of case, and the lines that give them.
+use crate::case::{KINDS, Kind};
+use crate::comparison::Comparison;
 use std::io;
 
-pub const KINDS: usize = 9;
-
-fn index(kind: u8) -> usize {
-    kind as usize
-}
-
-// One more for the kind, where `counted`. No run reaches the number at which a count wraps.
-pub fn count(counts: &mut [u64; KINDS], kind: u8, counted: bool) {
-    let at = index(kind);
-    if counted {
-        if at < KINDS {
-            counts[at] = counts[at].wrapping_add(1);
-        }
-    }
-}
-
-fn put(rt: &impl Print, name: &str, what: &str, n: u64) -> io::Result<()> {
-    print!(rt; "{name}{n}{what}")
-}
-
-pub fn print(
-    rt: &impl Print,
-    name: &str,
+#[derive(Clone, Copy)]
+pub struct Tally {
     cases: u64,
     differences: u64,
     lost: u64,
+    refusals: u64,
+}
+
+pub const NONE: Tally = Tally {
+    cases: 0,
+    differences: 0,
+    lost: 0,
+    refusals: 0,
+};
+
+impl Tally {
+    // One case more. No run reaches the number at which a count wraps.
+    fn add(&mut self, found: Comparison) {
+        self.cases = self.cases.wrapping_add(1);
+        self.differences = self.differences.wrapping_add(u64::from(!found.same));
+        self.lost = self.lost.wrapping_add(u64::from(!found.back));
+        self.refusals = self.refusals.wrapping_add(u64::from(found.refused));
+    }
+
+    fn accepted(&self) -> u64 {
+        self.cases.wrapping_sub(self.refusals)
+    }
+}
+
+pub fn count(tallies: &mut [Tally; KINDS], kind: Kind, found: Comparison) {
+    tallies[kind as usize].add(found);
+}
+
+fn print_transform(rt: &impl Print, name: &str, t: Tally) -> io::Result<()> {
+    println!(rt;
+        "{name}: {} cases, {} differences, {} not given back",
+        t.cases, t.differences, t.lost
+    )
+}
+
+// Of a call, which is not undone: what its cases have in common is `accepted` and `refused`.
+fn print_call(
+    rt: &impl Print,
+    name: &str,
+    t: Tally,
+    accepted: &str,
+    refused: &str,
 ) -> io::Result<()> {
-    put(rt, name, " cases, ", cases)?;
-    put(rt, "", " differences, ", differences)?;
-    put(rt, "", " not given back\n", lost)
+    println!(rt; "{name}: {} cases, {} differences", t.cases, t.differences)?;
+    print_refused(rt, name, t, accepted, refused)
 }
 
-// Calls, which are not undone.
-pub fn print_call(rt: &impl Print, name: &str, cases: u64, differences: u64) -> io::Result<()> {
-    put(rt, name, " cases, ", cases)?;
-    put(rt, "", " differences\n", differences)
+fn print_refused(
+    rt: &impl Print,
+    name: &str,
+    t: Tally,
+    accepted: &str,
+    refused: &str,
+) -> io::Result<()> {
+    println!(rt;
+        "{name}: {} {accepted}, {} {refused}",
+        t.accepted(),
+        t.refusals
+    )
 }
 
-pub fn print_refused(rt: &impl Print, name: &str, cases: u64, refusals: u64) -> io::Result<()> {
-    put(rt, name, " accepted, ", cases.wrapping_sub(refusals))?;
-    put(rt, "", " refused\n", refusals)
-}
-
-pub fn print_list(rt: &impl Print, name: &str, cases: u64, refusals: u64) -> io::Result<()> {
-    put(
-        rt,
-        name,
-        " accepted throughout, ",
-        cases.wrapping_sub(refusals),
-    )?;
-    put(rt, "", " with a refusal\n", refusals)
+pub fn print(rt: &impl Print, tallies: &[Tally; KINDS]) -> io::Result<()> {
+    let [
+        predictor,
+        color,
+        green,
+        table,
+        map,
+        rebuild,
+        store,
+        retouches,
+        reports,
+    ] = *tallies;
+    print_transform(rt, "predictor", predictor)?;
+    print_transform(rt, "color", color)?;
+    print_transform(rt, "subtract green", green)?;
+    print_transform(rt, "color table", table)?;
+    print_refused(rt, "color table stored", table, "accepted", "refused")?;
+    print_transform(rt, "color map", map)?;
+    print_call(rt, "rebuild by a chain", rebuild, "accepted", "refused")?;
+    print_call(rt, "store by a chain", store, "accepted", "refused")?;
+    let (throughout, one) = ("accepted throughout", "with a refusal");
+    print_call(rt, "lists of retouches", retouches, throughout, one)?;
+    print_call(rt, "lists of reports", reports, throughout, one)
 }

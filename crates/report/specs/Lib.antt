@@ -1,3 +1,4 @@
 -- What the contracts of `report` cite beside the definitions of `format`.
+pub mod Counting
 pub mod Counts
-pub mod Reported
+pub mod Listed

@@ -1,23 +1,43 @@
 // The list of colors.
-ghost use Rattle.std.specs.Prelude.{◌≡◌};
+ghost use Rattle.std.specs.Prelude.{IfOk, ◌≡◌};
 ghost use Rattle.format.specs.Picture.{pixels};
+ghost use Rattle.format.specs.ColorTable.{index_of};
+ghost use Rattle.format.specs.Refusals.{returned};
 ghost use Rattle.format.specs.Report.{distinct};
-ghost use Rattle.color_table.specs.Hints.{Table};
+ghost use Rattle.report.specs.Listed.{list_answer, ListOf};
 
-use color_table::find::find;
-use pixel::word::word_at;
+use color_map::refused_length;
+use color_table::lookup::Lookup;
+use format::Refusal;
+use pixel::word::Word;
+
+// The index of w, or the list's size.
+#[tactic(auto, using(crate::proofs::Own::placed))]
+pub fn place(list: &Lookup, w: Word) -> usize
+    ensures { result ≡ index_of list.now.size (pixels list.now.entries.now) w }
+{
+    list.find(w).unwrap_or(list.size)
+}
 
 // Whether no color is listed twice: each is found at its own index.
-pub fn distinct(colors: &[u8], size: usize, hints: &[u8]) -> bool
-    requires { Table size colors.now hints.now }
-    ensures { result ≡ distinct size (pixels colors.now) }
+fn distinct(list: &Lookup) -> bool
+    ensures { result ≡ distinct list.now.size (pixels list.now.entries.now) }
 {
-    let mut k = 0;
-    while k < size {
-        if find(colors, size, hints, word_at(colors, k)) != k {
-            return false;
-        }
-        k += 1;
+    (0..list.size).all(|k| place(list, Word::at(list.entries, k)) == k)
+}
+
+// Test 23: the list of colors, which may have the lengths of a color map.
+#[tactic(auto, unfolding(format::specs::Report::color_list))]
+pub fn list_of(colors: &[u8]) -> Result<Lookup<'_>, Refusal>
+    ensures refusal { returned result ≡ list_answer colors.now }
+    ensures list { IfOk result (ListOf colors.now) }
+{
+    if refused_length(colors.len()) {
+        return Err(Refusal::ColorList);
     }
-    true
+    let list = Lookup::new(colors, colors.len() / 4);
+    if !distinct(&list) {
+        return Err(Refusal::ColorList);
+    }
+    Ok(list)
 }

@@ -1,113 +1,79 @@
 // How many pixels of a picture are found at each index of a list of colors, or at none. Groups of sixteen pixels of one
 // color are counted at once.
-ghost use Rattle.std.specs.Prelude.{◌≡◌, ◌+◌, ◌*◌, ◌%◌, ◌<◌, ◌≤◌, length, set};
-ghost use Rattle.color_table.specs.Hints.{Table};
-ghost use Rattle.report.specs.Counts.{at, most_pixels, Groups, CountedIn};
+ghost use Rattle.std.specs.Prelude.{◌≡◌, ◌+◌, ◌*◌, ◌<◌, ◌≤◌, length, set};
+ghost use Rattle.report.specs.Counts.{at, most_pixels};
 
-use color_table::find::find;
+use crate::colors::place;
 use color_table::groups::pass;
-use pixel::word::word_at;
+use color_table::lookup::Lookup;
+use pixel::word::Word;
 
-// n pixels more at index k.
-fn add(counts: &mut [u64; 257], k: usize, n: usize)
-    requires { (k ≤ 256) × (at counts.old k + n ≤ most_pixels) }
-    ensures { counts.new ≡ set counts.old k (at counts.old k + n) }
-{
-    counts[k] = counts[k] + n as u64;
+// How many pixels were found at each index of a list of colors, and at none of them, which is the list's size.
+#[derive(Clone, Copy)]
+pub struct Counts {
+    pub numbers: [u64; 257],
+    pub ghost full: { length numbers ≡ 257 },
 }
 
-// Pixels `from` up to `to`, one by one.
-fn count_each(
-    picture: &[u8],
-    from: usize,
-    to: usize,
-    colors: &[u8],
-    size: usize,
-    hints: &[u8],
-    counts: &mut [u64; 257],
-)
-    requires table { Table size colors.now hints.now }
-    requires from_le_to { (from ≤ to) × (to ≤ most_pixels) × (4 * to ≤ length picture.now) }
-    requires counted_in { CountedIn size colors.now from picture.now counts.old }
-    ensures { CountedIn size colors.now to picture.now counts.new }
-{
-    let mut i = from;
-    while i < to {
-        add(counts, find(colors, size, hints, word_at(picture, i)), 1);
-        i += 1;
+impl Counts {
+    // n pixels more at index k.
+    fn add(&mut self, k: usize, n: usize)
+        requires { (k ≤ 256) × (at self.old.numbers k + n ≤ most_pixels) }
+        ensures { self.new.numbers ≡ set self.old.numbers k (at self.old.numbers k + n) }
+    {
+        self.numbers[k] += n as u64;
     }
 }
 
-// The groups from pixel i on that are of its color; returns the pixel after them.
-fn count_same(
-    picture: &[u8],
-    i: usize,
-    whole: usize,
-    colors: &[u8],
-    size: usize,
-    hints: &[u8],
-    counts: &mut [u64; 257],
-) -> usize
-    requires table { Table size colors.now hints.now × Groups i whole picture.now }
-    requires counted_in { CountedIn size colors.now i picture.now counts.old }
-    ensures { (result % 16 ≡ 0) × (i ≤ result) × (result ≤ whole)
-        × CountedIn size colors.now result picture.now counts.new }
-{
-    let w = word_at(picture, i);
-    let j = pass(picture, i, whole, w, w);
-    add(counts, find(colors, size, hints, w), j - i);
-    j
+// The first `count` pixels of a picture, to be counted by a list of colors.
+#[derive(Clone, Copy)]
+pub struct Counting<'a> {
+    pub list: &'a Lookup<'a>,
+    pub picture: &'a [u8],
+    pub count: usize,
+    pub ghost few: { count ≤ most_pixels },
+    pub ghost there: { 4 * count ≤ length picture.now },
 }
 
-// The same, and the group after them, which is of several colors.
-fn count_run(
-    picture: &[u8],
-    i: usize,
-    whole: usize,
-    colors: &[u8],
-    size: usize,
-    hints: &[u8],
-    counts: &mut [u64; 257],
-) -> usize
-    requires table { Table size colors.now hints.now × Groups i whole picture.now }
-    requires counted_in { CountedIn size colors.now i picture.now counts.old }
-    ensures { (result % 16 ≡ 0) × (i < result) × (result ≤ whole)
-        × CountedIn size colors.now result picture.now counts.new }
-{
-    let j = count_same(picture, i, whole, colors, size, hints, counts);
-    if whole <= j {
-        return j;
+impl<'a> Counting<'a> {
+    ghost use Rattle.report.specs.Counting.{CountedIn, Start};
+
+    // Pixels `from` up to `to`, one by one.
+    fn each(&self, counts: &mut Counts, from: usize, to: usize)
+        requires from_le_to { (from ≤ to) × (to ≤ self.now.count) }
+        requires counted_in { CountedIn self.now from counts.old }
+        ensures { CountedIn self.now to counts.new }
+    {
+        for i in from..to {
+            counts.add(place(self.list, Word::at(self.picture, i)), 1);
+        }
     }
-    count_each(picture, j, j + 16, colors, size, hints, counts);
-    j + 16
-}
 
-// No pixel counted: the buffers are named for the contract.
-fn no_counts(picture: &[u8], colors: &[u8], size: usize) -> [u64; 257]
-    requires { size ≤ 256 }
-    ensures { CountedIn size colors.now 0 picture.now result }
-{
-    [0u64; 257]
-}
-
-// The first `count` pixels.
-pub fn count_pixels(
-    picture: &[u8],
-    count: usize,
-    colors: &[u8],
-    size: usize,
-    hints: &[u8],
-) -> [u64; 257]
-    requires table { Table size colors.now hints.now }
-    requires count_le_most_pixels { (count ≤ most_pixels) × (4 * count ≤ length picture.now) }
-    ensures { CountedIn size colors.now count picture.now result }
-{
-    let mut counts = no_counts(picture, colors, size);
-    let whole = count / 16 * 16;
-    let mut i = 0;
-    while i < whole {
-        i = count_run(picture, i, whole, colors, size, hints, &mut counts);
+    // The groups from pixel i on that are of its color, and the sixteen pixels after them, or those that are left;
+    // returns the pixel after these.
+    fn run(&self, counts: &mut Counts, i: usize) -> usize
+        requires start { Start self.now i × (i < self.now.count) }
+        requires counted_in { CountedIn self.now i counts.old }
+        ensures { (i < result) × Start self.now result × CountedIn self.now result counts.new }
+    {
+        let w = Word::at(self.picture, i);
+        let j = pass(self.picture, i, self.count / 16 * 16, w, w);
+        counts.add(place(self.list, w), j - i);
+        let end = self.count.min(j + 16);
+        self.each(counts, j, end);
+        end
     }
-    count_each(picture, whole, count, colors, size, hints, &mut counts);
-    counts
+
+    // The counts of all of them.
+    pub fn counts(&self) -> Counts
+        ensures { CountedIn self.now self.now.count result }
+    {
+        let mut counts = Counts { numbers: [0; 257] };
+        let mut i = 0;
+        // A turn goes to the end of a run.
+        while i < self.count {
+            i = self.run(&mut counts, i);
+        }
+        counts
+    }
 }

@@ -1,24 +1,29 @@
 -- The number and the bytes of `retouch` at each of its returns.
-use mathlib.Core.Bool.{false}
+use mathlib.Core.Logic.{◌⊎◌, inl, inr}
+use mathlib.Core.Bool.{true, false}
 use mathlib.Core.List.{List, [], ◌∷◌}
 use mathlib.Core.Path.{◌≡◌, refl, sym, ◌∙◌}
 use Prim.Native.Nat.{ℕ, ◌+◌, ◌*◌, ◌<◌, ◌≤◌}
 use native.Mathlib.Omega.{arith}
 use borrow.Author.Tests.{lt-ltb, le-ltb}
 use Rattle.format.specs.declared.Pixel.{Pixel}
+use Rattle.format.specs.declared.Refusal.{Refusal}
+use Rattle.format.specs.declared.Refusal.TheVariants.{Outside}
+use Rattle.format.specs.Refusals.{number}
 use Rattle.format.specs.Picture.{Picture, pixels}
 use Rattle.format.specs.Chain.{step_at, count}
 use Rattle.format.specs.Retouch.{point_answer}
 use Rattle.format.specs.Calls.{records, inside, painted, pair_refusal, retouch_answer, retouch_picture, retouch_strip}
 use Rattle.format.proofs.Valid.{before_some}
-use Rattle.format.proofs.Calls.{not_accepted, pair_refusal_most, retouch_refused}
+use Rattle.format.proofs.Calls.{retouch_refused}
 use Rattle.format.proofs.Steps.{new_strip_steps, point_answer_steps}
 use Rattle.pixel.proofs.Blocks.{row_there}
 use Rattle.chain.specs.declared.Chain.{Chain}
 use Rattle.chain.specs.Valid.{steps_of, pixels_in, records_in}
-use Rattle.chain.specs.Reading.{ChainOf, Opened}
+use Rattle.chain.specs.Reading.{Opened}
 use Rattle.chain.proofs.Valid.{pixels_few}
-use Rattle.item.specs.declared.Point.{Point}
+use Rattle.item.specs.declared.painted.Point.{Point}
+use Rattle.retouch.proofs.Deciding.{refused_number}
 use Rattle.retouch.specs.Decided.{answer_by, picture_left, strip_left}
 
 module _ (w h : ℕ) (cs ds picture strip : List ℕ) (x y : ℕ) (v : Pixel) where
@@ -34,62 +39,53 @@ module _ (w h : ℕ) (cs ds picture strip : List ℕ) (x y : ℕ) (v : Pixel) wh
   abbrev new : Picture
   new = painted w (pixels picture) x y v
 
-  refused : (r : ℕ) → r ≡ answer → (r ≡ 0 → ⊥) → r < 256 → Answered r picture strip
-  refused r e d l =
-      let s = retouch_refused w h cs ds picture strip x y v (not_accepted answer (λ z. d (e ∙ z)) (omega arith)) in
+  refused : (r : Refusal) → number r ≡ answer → Answered (number r) picture strip
+  refused r e =
+      let s = retouch_refused w h cs ds picture strip x y v (rw (← e) (refused_number r)) in
       (e, (sym s.0, sym s.1))
 
-  module _ (c : Chain) (opened : Opened w h cs ds picture strip c) where
-    -- refusals 1 to 8
-    pub refused_pair : (c.refusal ≡ 0 → ⊥) → Answered c.refusal picture strip
+  -- refusals 1 to 8
+  pub refused_pair : (r : Refusal) → number r ≡ pair_refusal w h cs ds picture strip → Answered (number r) picture strip
+  unfolding retouch_answer
+  refused_pair r e =
+      let some : pair_refusal w h cs ds picture strip ≡ 0 → ⊥ = λ z. let a : true ≡ false = rw (e ∙ z) at (refused_number r) in cc in
+      refused r (e ∙ sym (before_some (pair_refusal w h cs ds picture strip) _ some))
+
+  module _ (valid : 0 ≡ pair_refusal w h cs ds picture strip) where
+    -- 9
+    outside : inside w h x y ≡ false → Answered (number Outside) picture strip
     unfolding retouch_answer
-    refused_pair d =
-        let m = pair_refusal_most w h cs ds picture strip in
-        let e = opened.refusal in
-        refused c.refusal (e ∙ sym (before_some (pair_refusal w h cs ds picture strip) _ (λ z. d (e ∙ z)))) d (omega arith)
+    outside e = refused Outside (sym (rw (← valid, e) refl))
 
-    module _ (none : c.refusal ≡ 0) where
-      valid : pair_refusal w h cs ds picture strip ≡ 0
-      valid = sym opened.refusal ∙ none
+    pub refused_outside : (w ≤ x) ⊎ ((x < w) × (h ≤ y)) → Answered (number Outside) picture strip
+    refused_outside (inl l) = outside (rw (le-ltb x w l) refl)
+    refused_outside (inr (l, m)) = outside (rw (lt-ltb x w l, le-ltb y h m) refl)
 
-      -- 9
-      outside : inside w h x y ≡ false → Answered 9 picture strip
-      unfolding retouch_answer
-      outside e = refused 9 (sym (rw (valid, e) refl)) (λ z. omega arith) (omega arith)
-
-      pub refused_column : w ≤ x → Answered 9 picture strip
-      refused_column l = outside (rw (le-ltb x w l) refl)
-
-      pub refused_row : x < w → h ≤ y → Answered 9 picture strip
-      refused_row l m = outside (rw (lt-ltb x w l, le-ltb y h m) refl)
-
+    module _ (c : Chain) (opened : Opened w h cs ds picture strip c) where
       -- 22, or the point and its records
       module _ (column : x < w) (row : y < h) where
-        of : ChainOf w h cs c
-        of = opened.of none
-
         area : pixels_in c ≡ h * w
-        area = rw (of.height, of.width) refl
+        area = rw (opened.of.height, opened.of.width) refl
 
         -- the point's index
         pub index_inside : y * c.width.0 + x < pixels_in c
-        index_inside = rw (area, of.width) (omega (arith, row_there w h y row))
+        index_inside = rw (area, opened.of.width) (omega (arith, row_there w h y row))
 
         pub index_small : y * c.width.0 + x < 16384 * 16384
-        index_small = let i = index_inside in let m = pixels_few c ds (opened.valid none) in omega arith
+        index_small = let i = index_inside in let m = pixels_few c ds (opened.valid) in omega arith
 
         wide : records_in c ≡ records w h cs
-        wide = rw (of.height, of.strip) refl
+        wide = rw (opened.of.height, opened.of.strip) refl
 
         here : answer ≡ point_answer (step_at cs w) ds (count cs) (records w h cs) new (y * w + x) (pixels strip)
         unfolding retouch_answer
-        here = rw (valid, lt-ltb x w column, lt-ltb y h row) refl
+        here = rw (← valid, lt-ltb x w column, lt-ltb y h row) refl
 
         pub answered : (i : ℕ) → i ≡ y * c.width.0 + x → (r : ℕ) (ps ss : List ℕ) → r ≡ answer_by c ds picture strip (at i)
             → ps ≡ picture_left c picture (at i) r → ss ≡ strip_left c ds picture strip (at i) r → Answered r ps ss
         unfolding retouch_picture retouch_strip
         answered i j r ps ss a p s =
-            let k : i ≡ y * w + x = j ∙ rw of.width refl in
-            let q = rw (k, wide, of.count, point_answer_steps (steps_of c) (step_at cs w) h ds new (pixels strip) (count cs) of.steps.at (records w h cs) (y * w + x)) at a in
+            let k : i ≡ y * w + x = j ∙ rw opened.of.width refl in
+            let q = rw (k, wide, opened.of.count, point_answer_steps (steps_of c) (step_at cs w) h ds new (pixels strip) (count cs) opened.of.steps.at (records w h cs) (y * w + x)) at a in
             let e : r ≡ answer = q ∙ sym here in
-            (e, (p ∙ rw (k, e, area) refl, s ∙ rw (k, e, wide, of.count, new_strip_steps (steps_of c) (step_at cs w) h ds new (pixels strip) (count cs) of.steps.at ((y * w + x) ∷ [])) refl))
+            (e, (p ∙ rw (k, e, area) refl, s ∙ rw (k, e, wide, opened.of.count, new_strip_steps (steps_of c) (step_at cs w) h ds new (pixels strip) (count cs) opened.of.steps.at ((y * w + x) ∷ [])) refl))

@@ -9,6 +9,9 @@ use lib.ListN.{length, get_or, take, drop, length-append}
 use lib.Seq.{drop-cons, drop-length, length-take-le}
 use Rattle.format.specs.Indices.{union}
 use Rattle.format.specs.declared.Step.{Step}
+use Rattle.format.specs.declared.TransformType.{TransformType}
+use Rattle.format.specs.declared.TransformType.TheVariants.{Predictor, Color, SubtractGreen, ColorTable}
+use Rattle.format.specs.Chain.{kind_of}
 use Rattle.format.specs.ColorTable.{packed_width}
 use Rattle.format.specs.Retouch.{five_spots, place_of, spots_of, spot_records}
 use Rattle.format.proofs.ByKind.{narrowed_table}
@@ -18,6 +21,13 @@ use Rattle.chain.specs.declared.Chain.{Chain}
 use Rattle.chain.specs.Valid.{Valid}
 use Rattle.chain.proofs.Valid.{step_sized}
 use Rattle.retouch.specs.Spots.{Followed, places_of}
+
+-- a kind's number is its own
+pub is_predictor : (t : TransformType) → kind_of t ≡ 0 → t ≡ Predictor
+is_predictor Predictor e = refl
+is_predictor Color e = absurd (omega arith)
+is_predictor SubtractGreen e = absurd (omega arith)
+is_predictor ColorTable e = absurd (omega arith)
 
 -- a packed pixel's number is no larger than those of the items that it holds: column x of row y of w columns, p packed
 pub packed_less : (w p q x y n : ℕ) → p ≤ w → x ≡ q % w → y ≡ q / w → y * p + x / n ≤ q
@@ -95,6 +105,7 @@ one_taken steps p k n xs none e l = sym (length-take-le n xs l) ∙ ap length e 
 pub valid_followed : (c : Chain) (ds : List ℕ) → Valid c ds → Followed c
 valid_followed c ds v = record {
   few = v.few;
+  known = λ k l. (v.step k l).known;
   wide = λ k l. (step_sized c ds v k l).wide;
   narrow = λ k l. (step_sized c ds v k l).narrow;
   once = λ j k i l a b. v.once j k i l (a ∙ sym b);

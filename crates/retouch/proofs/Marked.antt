@@ -1,39 +1,57 @@
 -- Laws of the mask: its bits from the last spot to the first.
-use Rattle.std.specs.Prelude.{if◌then◌else◌}
+use Rattle.std.specs.Int.{from_bool}
+use Rattle.std.specs.List.{list_any}
 use mathlib.Core.Bool.{Bool, true, false, not, ◌&&◌, ◌||◌}
-use mathlib.Core.List.{List, [], ◌∷◌}
-use mathlib.Core.Path.{◌≡◌, refl, sym, ap}
-use Prim.Native.Nat.{ℕ, suc, ◌+◌, ◌-◌, ◌*◌, ◌^◌, ◌<◌, ◌≤◌}
+use mathlib.Core.List.{List, [], ◌∷◌, ◌++◌}
+use mathlib.Core.Path.{◌≡◌, refl, sym, ap, ◌∙◌}
+use Prim.Native.Nat.{ℕ, zero, suc, ◌+◌, ◌-◌, ◌*◌, ◌^◌, ◌<◌, ◌≤◌}
 use native.Mathlib.Nat.{pow-suc}
 use native.Mathlib.Omega.{arith}
 use lib.Pow.{pow_mono}
-use borrow.Author.Tests.{ltb-true, eq-eqb, ne_eqb}
+use borrow.Author.Tests.{ltb-true, ne_eqb}
 use lib.Dec.{eqb, ltb}
 use lib.ListN.{length, get_or, take, drop}
+use lib.Seq.{take-suc}
+use native.Mathlib.Decide.{ℕ_discrete}
+use Rattle.format.specs.Choice.{bit}
 use Rattle.format.specs.Indices.{among}
 use Rattle.format.specs.declared.Pixel.{Pixel}
 use Rattle.format.specs.Pixel.{clear, equal}
 use Rattle.format.specs.Picture.{Picture}
 use Rattle.format.specs.Retouch.{differ, marks, mask_of}
 use Rattle.retouch.specs.Remade.{MadeTo, seen_before, marked}
-use Rattle.retouch.proofs.Listed.{listed_before, listed_none}
+use Rattle.retouch.proofs.Listed.{listed_before}
 
--- the records seen before place k
+-- the records seen before place k: in either order they are the same
 
-module _ (xs : List ℕ) (r k : ℕ) where
-  seen_step : 0 < k → among r (seen_before xs k) ≡ (eqb r (get_or xs (k - 1) 0) || among r (seen_before xs (k - 1)))
-  seen_step p =
-      let e : k ≡ suc (k - 1) = omega arith in
-      ap (λ (j : ℕ). among r (seen_before xs j)) e
+eqb_swap : (a b : ℕ) → eqb a b ≡ eqb b a
+eqb_swap a b = go (ℕ_discrete a b)
+  where
+    go : Dec (a ≡ b) → eqb a b ≡ eqb b a
+    go (yes e) = rw e refl
+    go (no d) = rw (ne_eqb a b d, ne_eqb b a (λ e. d (sym e))) refl
 
-  pub seen_hit : 0 < k → get_or xs (k - 1) 0 ≡ r → true ≡ among r (seen_before xs k)
-  seen_hit p e = rw (seen_step p, eq-eqb r (get_or xs (k - 1) 0) (sym e)) refl
+among_after : (r q : ℕ) (xs : List ℕ) → list_any (λ y. eqb y r) (xs ++ (q ∷ [])) ≡ (eqb r q || list_any (λ y. eqb y r) xs)
+among_after r q [] = rw (eqb_swap q r) refl
+among_after r q (x ∷ xs) = rw (among_after r q xs) (or_swap (eqb x r) (eqb r q) (list_any (λ y. eqb y r) xs))
+  where
+    or_swap : (a b c : Bool) → (a || (b || c)) ≡ (b || (a || c))
+    or_swap true true c = refl
+    or_swap true false c = refl
+    or_swap false b c = refl
 
-  pub seen_missed : 0 < k → (get_or xs (k - 1) 0 ≡ r → ⊥) → among r (seen_before xs k) ≡ among r (seen_before xs (k - 1))
-  seen_missed p n = rw (seen_step p, ne_eqb r (get_or xs (k - 1) 0) (λ e. n (sym e))) refl
+pub among_seen : (xs : List ℕ) (r k : ℕ) → k ≤ length xs → list_any (λ y. eqb y r) (take k xs) ≡ among r (seen_before xs k)
+among_seen xs r zero l = refl
+among_seen xs r (suc k) l =
+    rw (take-suc xs k 0 l) (among_after r (get_or xs k 0) (take k xs) ∙ ap (λ (b : Bool). eqb r (get_or xs k 0) || b) (among_seen xs r k (omega arith)))
 
-  pub seen_none : k ≤ 0 → false ≡ among r (seen_before xs k)
-  seen_none l = let e : k ≡ 0 = omega arith in rw e refl
+from_bit : (t : Bool) → from_bool t ≡ bit t
+from_bit true = refl
+from_bit false = refl
+
+pub from_small : (t : Bool) → from_bool t ≤ 1
+from_small true = omega arith
+from_small false = omega arith
 
 -- the mask of the spots from place k on, where vs has the records of the strip g
 
@@ -45,26 +63,23 @@ made_differ n r f g v e = go (ltb r n) refl
     go false q = refl
 
 -- a mask says which of the spots from place k on change the strip f
-pub record MaskFrom (xs : List ℕ) (m n : ℕ) (f : Picture) (vs : List Pixel) (k mask : ℕ) : Type 0 where
-  pub is : (g : Picture) → MadeTo m g n xs vs → mask ≡ mask_of (marks (differ n f g) (seen_before xs k) (drop k (take m xs)))
+pub record MaskFrom (xs : List ℕ) (n : ℕ) (f : Picture) (vs : List Pixel) (k mask : ℕ) : Type 0 where
+  pub is : (g : Picture) → MadeTo (length xs) g n xs vs → mask ≡ mask_of (marks (differ n f g) (seen_before xs k) (drop k xs))
 
-module _ (xs : List ℕ) (m n : ℕ) (f : Picture) (vs : List Pixel) (l : m ≤ length xs) where
-  pub mask_none : MaskFrom xs m n f vs m 0
-  mask_none = record { is = λ g made. rw (listed_none xs m l) refl }
-
+module _ (xs : List ℕ) (n : ℕ) (f : Picture) (vs : List Pixel) where
   -- the spot before place k too
-  pub mask_more : (k mask b : ℕ) → MaskFrom xs m n f vs k mask → 0 < k → k ≤ m
-      → b ≡ (if marked n f xs (k - 1) (get_or vs (k - 1) clear) then 1 else 0)
-      → MaskFrom xs m n f vs (k - 1) (b + 2 * mask)
-  mask_more k mask b from p u e = record {
+  pub mask_more : (k mask b : ℕ) (t : Bool) → MaskFrom xs n f vs k mask → 0 < k → k ≤ length xs → b ≡ from_bool t
+      → t ≡ marked n f xs (k - 1) (get_or vs (k - 1) clear)
+      → MaskFrom xs n f vs (k - 1) (b + 2 * mask)
+  mask_more k mask b t from p u q e = record {
     is = λ g made.
         let r = get_or xs (k - 1) 0 in
         let s : r ∷ seen_before xs (k - 1) ≡ seen_before xs k = let j : k ≡ suc (k - 1) = omega arith in ap (seen_before xs) (sym j) in
         let d = made_differ n r f g (get_or vs (k - 1) clear) (λ q. made.at (k - 1) (omega arith) q) in
-        rw (listed_before xs m l k p u, s, ← d, ← from.is g made, ← e) refl;
+        rw (listed_before xs k p u, s, ← d, ← from.is g made, ← e, q, from_bit t) refl;
   }
 
-  pub mask_whole : (k mask : ℕ) → MaskFrom xs m n f vs k mask → k ≤ 0 → (g : Picture) → MadeTo m g n xs vs → mask ≡ mask_of (marks (differ n f g) [] (take m xs))
+  pub mask_whole : (k mask : ℕ) → MaskFrom xs n f vs k mask → k ≤ 0 → (g : Picture) → MadeTo (length xs) g n xs vs → mask ≡ mask_of (marks (differ n f g) [] xs)
   mask_whole k mask from z g made = let e : k ≡ 0 = omega arith in rw e at (from.is g made)
 
 -- its size

@@ -7,7 +7,8 @@ use Prim.Native.Nat.{ℕ, ◌-◌, ◌*◌, ◌<◌, ◌≤◌}
 use native.Mathlib.Omega.{arith}
 use borrow.Author.Tests.{ltb-true, ltb-false, eqb-true, ne_eqb}
 use lib.Dec.{eqb, ltb}
-use lib.ListN.{length, get_or, take, drop}
+use lib.ListN.{length, get_or, drop}
+use lib.Seq.{drop-length}
 use Rattle.format.specs.Indices.{among}
 use Rattle.format.specs.declared.Pixel.{Pixel}
 use Rattle.format.specs.Pixel.{clear}
@@ -17,7 +18,7 @@ use Rattle.format.proofs.Written.{written_self}
 use Rattle.pixel.specs.Cells.{put_pixel}
 use Rattle.pixel.proofs.Front.{put_written}
 use Rattle.retouch.specs.Remade.{MadeTo, over}
-use Rattle.retouch.proofs.Listed.{listed_before, listed_none}
+use Rattle.retouch.proofs.Listed.{listed_before}
 
 -- one record more of g
 
@@ -34,31 +35,31 @@ unfolding over
 over_outside g f rs r i d = rw (ne_eqb i r d) refl
 
 -- a strip is the old one with the records of the spots from place k on, where vs has those of g
-pub record WrittenFrom (xs : List ℕ) (m n : ℕ) (vs : List Pixel) (old : List ℕ) (k : ℕ) (strip : List ℕ) : Type 0 where
-  pub is : (g : Picture) → MadeTo m g n xs vs → strip ≡ written n (over g (drop k (take m xs)) (pixels old)) old
+pub record WrittenFrom (xs : List ℕ) (n : ℕ) (vs : List Pixel) (old : List ℕ) (k : ℕ) (strip : List ℕ) : Type 0 where
+  pub is : (g : Picture) → MadeTo (length xs) g n xs vs → strip ≡ written n (over g (drop k xs) (pixels old)) old
 
-module _ (xs : List ℕ) (m n : ℕ) (vs : List Pixel) (old : List ℕ) (l : m ≤ length xs) where
-  pub from_none : 4 * n ≤ length old → WrittenFrom xs m n vs old m old
+module _ (xs : List ℕ) (n : ℕ) (vs : List Pixel) (old : List ℕ) where
+  pub from_none : 4 * n ≤ length old → WrittenFrom xs n vs old (length xs) old
   unfolding over
-  from_none fits = record { is = λ g made. sym (rw (listed_none xs m l) (written_self n old fits)) }
+  from_none fits = record { is = λ g made. sym (rw (drop-length xs) (written_self n old fits)) }
 
-  pub from_more : (k : ℕ) (strip ys : List ℕ) → WrittenFrom xs m n vs old k strip → 0 < k → k ≤ m
+  pub from_more : (k : ℕ) (strip ys : List ℕ) → WrittenFrom xs n vs old k strip → 0 < k → k ≤ length xs
       → ys ≡ (if ltb (get_or xs (k - 1) 0) n then put_pixel strip (get_or xs (k - 1) 0) (get_or vs (k - 1) clear) else strip)
-      → WrittenFrom xs m n vs old (k - 1) ys
-  from_more k strip ys from p u e = record { is = λ g made. rw (listed_before xs m l k p u) (go g made (ltb (get_or xs (k - 1) 0) n) refl) }
+      → WrittenFrom xs n vs old (k - 1) ys
+  from_more k strip ys from p u e = record { is = λ g made. rw (listed_before xs k p u) (go g made (ltb (get_or xs (k - 1) 0) n) refl) }
     where
       r : ℕ
       r = get_or xs (k - 1) 0
 
-      go : (g : Picture) → MadeTo m g n xs vs → (b : Bool) → ltb r n ≡ b → ys ≡ written n (over g (r ∷ drop k (take m xs)) (pixels old)) old
+      go : (g : Picture) → MadeTo (length xs) g n xs vs → (b : Bool) → ltb r n ≡ b → ys ≡ written n (over g (r ∷ drop k xs) (pixels old)) old
       go g made true q =
           let i = ltb-true r n q in
           let v = get_or vs (k - 1) clear in
-          let f = over g (drop k (take m xs)) (pixels old) in
-          e ∙ rw (q, from.is g made, put_written n f old r v i) (written_same n (paint f r v) (over g (r ∷ drop k (take m xs)) (pixels old)) old (λ j h. over_paint g (pixels old) (drop k (take m xs)) r v (made.at (k - 1) (omega arith) i) j))
+          let f = over g (drop k xs) (pixels old) in
+          e ∙ rw (q, from.is g made, put_written n f old r v i) (written_same n (paint f r v) (over g (r ∷ drop k xs) (pixels old)) old (λ j h. over_paint g (pixels old) (drop k xs) r v (made.at (k - 1) (omega arith) i) j))
       go g made false q =
           let i = ltb-false r n q in
-          e ∙ rw (q, from.is g made) (written_same n (over g (drop k (take m xs)) (pixels old)) (over g (r ∷ drop k (take m xs)) (pixels old)) old (λ j h. over_outside g (pixels old) (drop k (take m xs)) r j (λ z. omega arith)))
+          e ∙ rw (q, from.is g made) (written_same n (over g (drop k xs) (pixels old)) (over g (r ∷ drop k xs) (pixels old)) old (λ j h. over_outside g (pixels old) (drop k xs) r j (λ z. omega arith)))
 
-  pub from_all : (k : ℕ) (strip : List ℕ) → WrittenFrom xs m n vs old k strip → k ≤ 0 → (g : Picture) → MadeTo m g n xs vs → strip ≡ written n (over g (take m xs) (pixels old)) old
+  pub from_all : (k : ℕ) (strip : List ℕ) → WrittenFrom xs n vs old k strip → k ≤ 0 → (g : Picture) → MadeTo (length xs) g n xs vs → strip ≡ written n (over g xs (pixels old)) old
   from_all k strip from z g made = let e : k ≡ 0 = omega arith in rw e at (from.is g made)

@@ -2,3 +2,4 @@
 pub mod Spots
 pub mod Remade
 pub mod Decided
+pub mod Changes

@@ -1,22 +1,16 @@
--- Records made afresh, in an array with a place for each spot: what making, marking and writing them does. n is the
+-- Records made afresh, in an array with a place for each: what making, marking and writing them does. n is the
 -- number of the strip's records.
-use Rattle.std.specs.Prelude.{Bool, not, ◌&&◌, List, [], ◌∷◌, ◌≡◌, ℕ, zero, suc, ◌<◌, ltb, get_or, if◌then◌else◌}
+use Rattle.std.specs.Prelude.{Option, is_none, IfSome, Bool, not, ◌&&◌, List, [], ◌∷◌, ◌≡◌, ℕ, zero, suc, ◌<◌, ltb, length, get_or, if◌then◌else◌}
 use Rattle.format.specs.Indices.{among}
 use Rattle.format.specs.declared.Pixel.{Pixel}
-use Rattle.format.specs.declared.Made.{Made}
-use Rattle.format.specs.declared.Made.TheVariants.{Missing}
 use Rattle.format.specs.Pixel.{clear, equal}
 use Rattle.format.specs.Picture.{Picture, pixels, written}
-use Rattle.format.specs.Refusals.{◌unless◌}
-use Rattle.format.specs.Made.{missing, made, made_number}
+use Rattle.format.specs.Made.{missing, made}
 use Rattle.format.specs.Retouch.{differ, marks, mask_of, unmade}
 use Rattle.chain.specs.declared.Chain.{Chain}
 use Rattle.chain.specs.Valid.{steps_of, records_in, stored_by}
-use Rattle.retouch.specs.declared.spots.Spots.{Spots}
-use Rattle.retouch.specs.declared.remake.Remade.{Remade}
-use Rattle.retouch.specs.Spots.{records_of}
 
--- of each of the first m spots whose record is one of the first n, vs has that record of the strip g
+-- of each of the first m records rs that is one of the first n, vs has it of the strip g
 pub record MadeTo (m : ℕ) (g : Picture) (n : ℕ) (rs : List ℕ) (vs : List Pixel) : Type 0 where
   pub at : (k : ℕ) → k < m → get_or rs k 0 < n → get_or vs k clear ≡ g (get_or rs k 0)
 
@@ -37,7 +31,7 @@ marked n f rs k v =
     (ltb r n && not (equal (f r) v)) && not (among r (seen_before rs k))
 
 -- what making record r of the strip gives; any pixel stands for one past the strip
-abbrev pub made_inside : Chain → List ℕ → Picture → ℕ → Made
+abbrev pub made_inside : Chain → List ℕ → Picture → ℕ → Option Pixel
 made_inside c ds f r =
     made (ltb r (records_in c) && missing (steps_of c) ds c.count f r)
     (if ltb r (records_in c) then stored_by c ds c.count f r else clear)
@@ -46,17 +40,17 @@ made_inside c ds f r =
 abbrev pub cannot : Chain → List ℕ → Picture → List ℕ → Bool
 cannot c ds f rs = unmade (steps_of c) ds c.count (records_in c) f rs
 
--- the records of the spots made of the picture f, or their refusal
-pub record RemadeBy (c : Chain) (ds : List ℕ) (f : Picture) (s : Spots) (r : Remade) : Type 0 where
-  pub refusal : r.refusal ≡ (made_number Missing unless not (cannot c ds f (records_of s)))
-  pub records : r.refusal ≡ 0 → MadeTo s.count (stored_by c ds c.count f) (records_in c) s.records r.records
+-- the records rs made of the picture f, unless one cannot
+pub record RemadeBy (c : Chain) (ds : List ℕ) (f : Picture) (rs : List ℕ) (r : Option (List Pixel)) : Type 0 where
+  pub missing : is_none r ≡ cannot c ds f rs
+  pub records : IfSome r (MadeTo (length rs) (stored_by c ds c.count f) (records_in c) rs)
 
 -- a mask marks the records that change, whichever strip g has those that were made
-abbrev pub MasksMade : ℕ → Spots → List Pixel → Picture → ℕ → Type 0
-MasksMade n s vs strip mask =
-    (g : Picture) → MadeTo s.count g n s.records vs → mask ≡ mask_of (marks (differ n strip g) [] (records_of s))
+abbrev pub MasksMade : ℕ → List ℕ → List Pixel → Picture → ℕ → Type 0
+MasksMade n rs vs strip mask =
+    (g : Picture) → MadeTo (length rs) g n rs vs → mask ≡ mask_of (marks (differ n strip g) [] rs)
 
 -- a strip is left with the records that were made, whichever strip g has them
-abbrev pub WritesMade : ℕ → Spots → List Pixel → List ℕ → List ℕ → Type 0
-WritesMade n s vs strip left =
-    (g : Picture) → MadeTo s.count g n s.records vs → left ≡ written n (over g (records_of s) (pixels strip)) strip
+abbrev pub WritesMade : ℕ → List ℕ → List Pixel → List ℕ → List ℕ → Type 0
+WritesMade n rs vs strip left =
+    (g : Picture) → MadeTo (length rs) g n rs vs → left ≡ written n (over g rs (pixels strip)) strip

@@ -1,52 +1,41 @@
 // What a retouch answers, and the records that it would write. No byte is written here.
-ghost use Rattle.std.specs.Prelude.{◌≡◌, ◌<◌};
-ghost use Rattle.std.specs.Int.Count.{ones};
-ghost use Rattle.format.specs.Retouch.{answer};
-ghost use Rattle.retouch.specs.Decided.{Retouchable, Decided};
+ghost use Rattle.std.specs.Prelude.{◌≡◌, ◌<◌, MatchResult};
+ghost use Rattle.format.specs.Refusals.{number};
+ghost use Rattle.chain.specs.Valid.{HoldsStrip, pixels_in};
+ghost use Rattle.retouch.specs.Decided.{Decided, answer_by};
 
-use crate::mask::mask_of;
+use crate::changes::Changes;
+use crate::mask::changes_of;
+use crate::records::Records;
 use crate::remake::remake;
-use crate::spots::{Spots, spots_of};
+use crate::spots::spots_of;
 use crate::strip::records_in;
-use chain::Chain;
-use format::Pixel;
-use item::Point;
+use format::{Pixel, Refusal};
+use item::painted::Painted;
 
-// `records` are those of the spots, where the answer is no refusal.
+// `made` are the records of the strip to come, spot by spot, in an array since there is no heap.
 #[derive(Clone, Copy)]
 pub struct Decision {
-    pub answer: u32,
-    pub spots: Spots,
-    pub records: [Pixel; 5],
+    pub changes: Changes,
+    pub spots: Records,
+    pub made: [Pixel; 5],
 }
 
-// The mask's ones are the records that change.
-fn answer_of(mask: u32) -> u32
-    requires { mask < 32 }
-    ensures { result ≡ answer (ones mask) mask }
+// Test 22, then the changes.
+pub fn decide(painted: &Painted, strip: &[u8]) -> Result<Decision, Refusal>
+    requires { HoldsStrip painted.now.chain strip.now × (painted.now.point.index < pixels_in painted.now.chain) }
+    ensures { MatchResult result
+        (Decided painted.now.chain painted.now.«data».now painted.now.picture.now strip.now painted.now.point)
+        (λ refusal. number refusal ≡ answer_by painted.now.chain painted.now.«data».now painted.now.picture.now
+        strip.now painted.now.point) }
 {
-    256 + 32 * u32::count_ones(mask) + mask
-}
-
-// Test 22, then the mask, where the point is to be painted.
-pub fn decide(chain: Chain, data: &[u8], picture: &[u8], strip: &[u8], point: Point) -> Decision
-    requires { Retouchable chain «data».now picture.now strip.now point }
-    ensures { Decided chain «data».now picture.now strip.now point result }
-{
-    let spots = spots_of(chain, point.index);
-    let made = remake(chain, data, picture, point, spots);
-    let records = made.records;
-    if made.refusal != 0 {
-        return Decision {
-            answer: made.refusal,
-            spots,
-            records,
-        };
-    }
-    let mask = mask_of(strip, records_in(chain), spots, records);
-    Decision {
-        answer: answer_of(mask),
+    let chain = painted.chain;
+    let spots = spots_of(chain, painted.point.index);
+    let made = remake(painted, spots.as_slice()).ok_or(Refusal::NoRecord)?;
+    let changes = changes_of(strip, records_in(chain), spots.as_slice(), made);
+    Ok(Decision {
+        changes,
         spots,
-        records,
-    }
+        made,
+    })
 }

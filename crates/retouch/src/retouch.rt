@@ -1,14 +1,16 @@
 // One point of a picture retouched, with the strip kept as the picture stored.
 ghost use Rattle.std.specs.Prelude.{◌≡◌};
 ghost use Rattle.format.specs.Calls.{retouch_answer, retouch_picture, retouch_strip};
+ghost use Rattle.retouch.specs.Changes.{retouched};
 ghost use Rattle.retouch.specs.Decided.{Retouchable, answer_by, picture_left, strip_left};
 
+use crate::changes::Changes;
 use crate::decide::decide;
 use crate::strip::{records_in, write};
 use chain::{Chain, open};
-use format::Pixel;
-use item::Point;
-use item::place::{Place, expanded_index};
+use format::{Pixel, Refusal};
+use item::painted::{Painted, Point};
+use item::place::Place;
 use pixel::pixel::put_pixel;
 
 // A valid chain whose buffers have room, and a point inside: what is decided is written, unless it is a refusal.
@@ -18,23 +20,29 @@ fn retouch_valid(
     picture: &mut [u8],
     strip: &mut [u8],
     point: Point,
-) -> u32
+) -> Result<Changes, Refusal>
     requires { Retouchable chain «data».now picture.old strip.old point }
-    ensures value { result ≡ answer_by chain «data».now picture.old strip.old point }
-    ensures picture_after { picture.new ≡ picture_left chain picture.old point result }
+    ensures value { retouched result ≡ answer_by chain «data».now picture.old strip.old point }
+    ensures picture_after { picture.new ≡ picture_left chain picture.old point (retouched result) }
     ensures strip_after { strip.new ≡ strip_left chain «data».now picture.old
         strip.old
-        point result }
+        point (retouched result) }
 {
-    let decision = decide(chain, data, picture, strip, point);
-    if decision.answer < 256 {
-        return decision.answer;
-    }
-    let spots = decision.spots;
-    let records = decision.records;
+    let painted = Painted {
+        chain,
+        data,
+        picture: &*picture,
+        point,
+    };
+    let decision = decide(&painted, strip)?;
     put_pixel(picture, point.index, point.color);
-    write(strip, records_in(chain), spots, records);
-    decision.answer
+    write(
+        strip,
+        records_in(chain),
+        decision.spots.as_slice(),
+        decision.made,
+    );
+    Ok(decision.changes)
 }
 
 // Tests 1 to 9 and 22, then the pixel and its records.
@@ -47,26 +55,20 @@ pub fn retouch(
     strip: &mut [u8],
     at: Place,
     color: Pixel,
-) -> u32
-    ensures value { result ≡ retouch_answer width height chain.now «data».now
+) -> Result<Changes, Refusal>
+    ensures value { retouched result ≡ retouch_answer width height chain.now «data».now
         picture.old strip.old at.x at.y color }
     ensures picture_after { picture.new ≡ retouch_picture width height chain.now «data».now
         picture.old strip.old at.x at.y color }
     ensures strip_after { strip.new ≡ retouch_strip width height chain.now «data».now
         picture.old strip.old at.x at.y color }
 {
-    let opened = open(width, height, chain, data, picture, strip);
-    if opened.refusal != 0 {
-        return opened.refusal;
-    }
-    if width <= at.x {
-        return 9;
-    }
-    if height <= at.y {
-        return 9;
+    let opened = open(width, height, chain, data, picture, strip)?;
+    if width <= at.x || height <= at.y {
+        return Err(Refusal::Outside);
     }
     let point = Point {
-        index: expanded_index(at.x, at.y, opened.width),
+        index: at.index(opened.width),
         color,
     };
     retouch_valid(opened, data, picture, strip, point)

@@ -2,10 +2,8 @@
 ghost use Rattle.std.specs.Prelude.{◌≡◌, ◌*◌, ◌≤◌, ltb, length, if◌then◌else◌};
 ghost use Rattle.pixel.specs.Cells.{put_pixel};
 ghost use Rattle.chain.specs.Valid.{records_in};
-ghost use Rattle.retouch.specs.Spots.{Sound};
 ghost use Rattle.retouch.specs.Remade.{WritesMade};
 
-use crate::spots::Spots;
 use chain::Chain;
 use format::Pixel;
 use pixel::pixel::put_pixel;
@@ -22,20 +20,17 @@ fn write_inside(strip: &mut [u8], n: usize, r: usize, v: Pixel)
     requires { 4 * n ≤ length strip.old }
     ensures { strip.new ≡ (if ltb r n then put_pixel strip.old r v else strip.old) }
 {
-    if n <= r {
-        return;
+    if r < n {
+        put_pixel(strip, r, v);
     }
-    put_pixel(strip, r, v);
 }
 
-pub fn write(strip: &mut [u8], n: usize, spots: Spots, made: [Pixel; 5])
-    requires { (4 * n ≤ length strip.old) × Sound spots }
-    ensures { WritesMade n spots made strip.old strip.new }
+// The records of all spots, from the last, as the definition does.
+pub fn write(strip: &mut [u8], n: usize, records: &[usize], made: [Pixel; 5])
+    requires { (4 * n ≤ length strip.old) × (length records.now ≤ 5) }
+    ensures { WritesMade n records.now made strip.old strip.new }
 {
-    let records = spots.records;
-    let mut k = spots.count;
-    while 0 < k {
-        k -= 1;
+    for k in (0..records.len()).rev() {
         write_inside(strip, n, records[k], made[k]);
     }
 }

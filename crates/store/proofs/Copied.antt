@@ -1,4 +1,4 @@
--- Rows of a picture, copied to scratch and from there to the strip.
+-- Rows in their parts of the strip, and acceptance row by row.
 use mathlib.Core.Bool.{Bool, true, false}
 use mathlib.Core.List.{List, [], ◌∷◌}
 use mathlib.Core.Path.{◌≡◌, refl, sym, ap, subst, ◌∙◌}
@@ -9,34 +9,20 @@ use native.Mathlib.Omega.{arith}
 use lib.ListN.{length, drop, length-drop}
 use Rattle.format.specs.Picture.{Picture, pixels, written}
 use Rattle.format.specs.ColorTable.{has_entry, have_entries}
-use Rattle.format.specs.Stages.{stored}
 use Rattle.format.proofs.Choice.{every_at, every_all}
-use Rattle.format.proofs.Written.{pixels_written, written_self}
+use Rattle.format.proofs.Written.{written_self}
 use Rattle.pixel.specs.Cells.{pixel_cells, run, given}
 use Rattle.pixel.specs.Held.{HoldsRow}
 use Rattle.pixel.proofs.Part.{back, part}
-use Rattle.pixel.proofs.Held.{held_part, held_back}
-use Rattle.pixel.proofs.Given.{given_written}
-use Rattle.store.specs.Scratch.{Scratch}
+use Rattle.pixel.proofs.Held.{held_back}
+use Rattle.pixel.proofs.Given.{given_written, front_done}
+use Rattle.pixel.proofs.Rows.{row_more}
+use Rattle.pixel.proofs.Blocks.{row_there}
 use Rattle.chain.specs.declared.Chain.{Chain}
-use Rattle.store.specs.Stage.{RowOf}
-use Rattle.store.proofs.Lent.{back_length, lent_length}
+use Rattle.chain.specs.Valid.{Valid, stored_by, records_in, HoldsStrip}
+use Rattle.store.specs.Stage.{Same}
+use Rattle.store.proofs.Lent.{lent_length}
 use Rattle.store.proofs.Packed.{row_entries}
-
--- scratch at its lengths
-pub scratch_kept : (row rows row' rows' : List ℕ) → Scratch row rows → length row' ≡ length row → length rows' ≡ length rows → Scratch row' rows'
-scratch_kept row rows row' rows' s p q = record { one = p ∙ s.one; two = q ∙ s.two }
-
--- row y of the picture, copied to the front of xs
-pub first_row : (c : Chain) (ds : List ℕ) (y : ℕ) (bs xs ys : List ℕ) → ys ≡ written c.width.0 (pixels (part (y * c.width.0) c.width.0 bs)) xs
-    → 4 * (y * c.width.0) + 4 * c.width.0 ≤ length bs → RowOf c ds 0 (pixels bs) y ys
-unfolding stored
-first_row c ds y bs xs ys e l x u = let w = c.width.0 in ap (λ (zs : List ℕ). pixels zs x) e ∙ pixels_written w (pixels (part (y * w) w bs)) xs x u ∙ held_part y w bs l x u
-
--- a row copied to its place in the strip
-pub row_stored : (g : Picture) (y w : ℕ) (row strip z : List ℕ) → z ≡ written w (pixels row) (part (y * w) w strip) → HoldsRow g y w row → 4 * (y * w) + 4 * w ≤ length strip
-    → 4 * w ≤ length (part (y * w) w strip) → back (4 * (y * w)) (4 * (y * w) + 4 * w - 4 * (y * w)) strip z ≡ run pixel_cells (given g) (y * w) w strip
-row_stored g y w row strip z e h l m = held_back g y w row strip z (e ∙ sym (given_written (pixels row) w (part (y * w) w strip) m)) h l
 
 -- two buffers that hold the n pixels alone
 whole_written : (n : ℕ) (f : Picture) (xs ys : List ℕ) → length xs ≡ 4 * n → length ys ≡ 4 * n → written n f xs ≡ written n f ys
@@ -53,26 +39,42 @@ whole_written zero f (x ∷ xs) ys p q = absurd (nothing p)
 whole_written (suc n) f xs ys p q =
     cc (whole_written n (λ i. f (suc i)) (drop 4 xs) (drop 4 ys) (length-drop 4 xs ∙ omega arith) (length-drop 4 ys ∙ omega arith))
 
--- a row made in its part of the strip
-pub row_in_strip : (g : Picture) (y w : ℕ) (strip z : List ℕ) → HoldsRow g y w z → length z ≡ length (part (y * w) w strip) → 4 * (y * w) + 4 * w ≤ length strip
-    → back (4 * (y * w)) (4 * (y * w) + 4 * w - 4 * (y * w)) strip z ≡ run pixel_cells (given g) (y * w) w strip
-row_in_strip g y w strip z h e l =
-    let p = lent_length (4 * (y * w)) (4 * (y * w) + 4 * w) strip (omega arith) l in
-    let m : length (part (y * w) w strip) ≡ 4 * w = omega arith in
-    row_stored g y w z strip z (sym (written_self w z (omega arith)) ∙ whole_written w (pixels z) z (part (y * w) w strip) (e ∙ m) m) h l (omega arith)
+module _ (y w : ℕ) (strip : List ℕ) (room : 4 * (y * w) + 4 * w ≤ length strip) where
+  pub part_length : length (part (y * w) w strip) ≡ 4 * w
+  part_length = lent_length (4 * (y * w)) (4 * (y * w) + 4 * w) strip (omega arith) room ∙ omega arith
 
-pub strip_length : (y w : ℕ) (strip z : List ℕ) → length z ≡ length (part (y * w) w strip) → 4 * (y * w) + 4 * w ≤ length strip
-    → length (back (4 * (y * w)) (4 * (y * w) + 4 * w - 4 * (y * w)) strip z) ≡ length strip
-strip_length y w strip z e l =
-    back_length (4 * (y * w)) (4 * (y * w) + 4 * w - 4 * (y * w)) strip z (omega arith) (e ∙ lent_length (4 * (y * w)) (4 * (y * w) + 4 * w) strip (omega arith) l)
+  -- a row, which came back as its part of the strip
+  row_in_strip : (g : Picture) (z : List ℕ) → length z ≡ 4 * w → HoldsRow g y w z → back (4 * (y * w)) (4 * (y * w) + 4 * w - 4 * (y * w)) strip z ≡ run pixel_cells (given g) (y * w) w strip
+  row_in_strip g z full h =
+      let m = part_length in
+      let same = sym (written_self w z (omega arith)) ∙ whole_written w (pixels z) z (part (y * w) w strip) full m in
+      held_back g y w z strip z (same ∙ sym (given_written (pixels z) w (part (y * w) w strip) (omega arith))) h room
 
-pub part_room : (y w : ℕ) (strip : List ℕ) → 4 * (y * w) + 4 * w ≤ length strip → 4 * w ≤ length (part (y * w) w strip)
-part_room y w strip l = let e = lent_length (4 * (y * w)) (4 * (y * w) + 4 * w) strip (omega arith) l in omega arith
+-- the rows of a strip, where those before y are stored
+
+module _ (c : Chain) (ds : List ℕ) (v : Valid c ds) (f : Picture) (y : ℕ) (old strip : List ℕ) (long : length strip ≡ length old) (holds : HoldsStrip c old) where
+  abbrev width : ℕ
+  width = c.strip.0
+
+  pub strip_room : y < c.height → 4 * (y * width) + 4 * width ≤ length strip
+  strip_room l = let r = row_there width c.height y l in omega arith
+
+  abbrev Done : ℕ → List ℕ → Type 0
+  Done k xs = xs ≡ run pixel_cells (given (stored_by c ds c.count f)) 0 (k * width) old
+
+  pub row_done : (z : List ℕ) → y < c.height → Done y strip → length z ≡ 4 * width → HoldsRow (stored_by c ds c.count f) y width z
+      → Done (y + 1) (back (4 * (y * width)) (4 * (y * width) + 4 * width - 4 * (y * width)) strip z)
+  row_done z l e full h =
+      row_more (given (stored_by c ds c.count f)) y width old strip _ e
+      (row_in_strip y width strip (strip_room l) (stored_by c ds c.count f) z full h)
+
+  pub all_done : Done y strip → y ≡ c.height → strip ≡ written (records_in c) (stored_by c ds c.count f) old
+  all_done e q = front_done (stored_by c ds c.count f) (y * width) (records_in c) old strip e (ap (λ (k : ℕ). k * width) q) holds
 
 -- acceptance, row by row
 
-pub entries_none : (size w : ℕ) (e f : Picture) → have_entries size e (0 * w) f ≡ true
-entries_none size w e f = let z : 0 * w ≡ 0 = omega arith in rw z refl
+pub held_same : (f : Picture) (y w : ℕ) (row front : List ℕ) → Same w row front → HoldsRow f y w row → HoldsRow f y w front
+held_same f y w row front s h x l = s x l ∙ h x l
 
 pub entries_more : (size w y : ℕ) (e f : Picture) (row : List ℕ) → have_entries size e (y * w) f ≡ true → HoldsRow f y w row → have_entries size e w (pixels row) ≡ true → have_entries size e ((y + 1) * w) f ≡ true
 entries_more size w y e f row a h t = every_all ((y + 1) * w) (λ p. has_entry size e (f p)) at

@@ -8,7 +8,7 @@ use lib.ListN.{length, take, drop, length-drop, length-append}
 use lib.Seq.{length-take-le}
 use Rattle.format.specs.Picture.{Picture, pixels, written}
 use Rattle.format.proofs.Written.{length_written, pixels_written}
-use Rattle.pixel.proofs.Part.{back, pixel_back, pixel_before, pixel_part}
+use Rattle.pixel.proofs.Part.{back, pixel_back, pixel_part}
 
 -- the length of the part from byte a up to byte b
 pub lent_length : (a b : ℕ) (xs : List ℕ) → a ≤ b → b ≤ length xs → length (take (b - a) (drop a xs)) ≡ b - a
@@ -22,25 +22,6 @@ back_length a k xs z fits full =
     let r = length-drop k (drop a xs) in
     length-append (take a xs) (z ++ drop k (drop a xs)) ∙ rw (length-append z (drop k (drop a xs)), p, full, r, q) (omega arith)
 
--- n pixels of f written at the front of the part from pixel a up to byte b, which came back as z
-module _ (a b n : ℕ) (f : Picture) (xs z : List ℕ) (e : z ≡ written n f (take (b - 4 * a) (drop (4 * a) xs))) (room : 4 * a + 4 * n ≤ b) (fits : b ≤ length xs) where
-  z_length : length z ≡ b - 4 * a
-  z_length =
-      let t = lent_length (4 * a) b xs (omega arith) fits in
-      ap (λ (ys : List ℕ). length ys) e ∙ length_written n f (take (b - 4 * a) (drop (4 * a) xs)) (omega arith) ∙ t
-
-  pub lent_kept : length (back (4 * a) (b - 4 * a) xs z) ≡ length xs
-  lent_kept = back_length (4 * a) (b - 4 * a) xs z (omega arith) z_length
-
-  pub lent_written : (x : ℕ) → x < n → pixels (back (4 * a) (b - 4 * a) xs z) (a + x) ≡ f x
-  lent_written x l =
-      pixel_back a (b - 4 * a) xs (omega arith) z z_length x (omega arith)
-      ∙ ap (λ (ys : List ℕ). pixels ys x) e
-      ∙ pixels_written n f (take (b - 4 * a) (drop (4 * a) xs)) x l
-
-  pub lent_before : (x : ℕ) → x < a → pixels (back (4 * a) (b - 4 * a) xs z) x ≡ pixels xs x
-  lent_before x l = pixel_before a (b - 4 * a) xs z (omega arith) x l
-
 -- the front that is lent, up to byte b
 pub front_pixel : (b : ℕ) (xs : List ℕ) (x : ℕ) → 4 * x + 4 ≤ b → b ≤ length xs → pixels (take (b - 0) (drop 0 xs)) x ≡ pixels xs x
 front_pixel b xs x l fits = pixel_part 0 (b - 0) xs (omega arith) x (omega arith) ∙ ap (pixels xs) (zero-add x)
@@ -50,14 +31,14 @@ pub front_back : (b : ℕ) (xs z : List ℕ) (x : ℕ) → length z ≡ b - 0 �
 front_back b xs z x full l fits =
     ap (pixels (back 0 (b - 0) xs z)) (sym (zero-add x)) ∙ pixel_back 0 (b - 0) xs (omega arith) z full x (omega arith)
 
--- the free half of two rows came back as z: the first half stays
-pub first_kept : (rows z : List ℕ) → length rows ≡ 131072 → (x : ℕ) → x < 16384 → pixels (back 65536 (131072 - 65536) rows z) x ≡ pixels rows x
-first_kept rows z fits x l = pixel_before 16384 65536 rows z (omega arith) x l
-
--- n pixels of f written, and copied from there
-pub copied_back : (n : ℕ) (f : Picture) (free row z ys : List ℕ) → z ≡ written n f free → ys ≡ written n (pixels z) row → (x : ℕ) → x < n → pixels ys x ≡ f x
-copied_back n f free row z ys e q x l =
-    ap (λ (zs : List ℕ). pixels zs x) q ∙ pixels_written n (pixels z) row x l ∙ ap (λ (zs : List ℕ). pixels zs x) e ∙ pixels_written n f free x l
-
-pub rows_kept : (rows z : List ℕ) → length rows ≡ 131072 → length z ≡ length (take (131072 - 65536) (drop 65536 rows)) → length (back 65536 (131072 - 65536) rows z) ≡ length rows
-rows_kept rows z fits full = back_length 65536 (131072 - 65536) rows z (omega arith) (full ∙ lent_length 65536 131072 rows (omega arith) (omega arith))
+-- n pixels of f written to `free`, and copied to the front of the row from there
+pub copied_back : (n b : ℕ) (f : Picture) (free out row z : List ℕ) → out ≡ written n f free → z ≡ take (b - 0) (drop 0 out) → b ≡ 4 * n → 4 * n ≤ length free → 4 * n ≤ length row
+    → (x : ℕ) → x < n → pixels (back 0 (b - 0) row z) x ≡ f x
+copied_back n b f free out row z e q m room fits x l =
+    let long : length out ≡ length free = ap (λ (ys : List ℕ). length ys) e ∙ length_written n f free room in
+    let full : length z ≡ b - 0 = ap (λ (ys : List ℕ). length ys) q ∙ lent_length 0 b out (omega arith) (omega arith) in
+    front_back b row z x full (omega arith) (omega arith)
+    ∙ ap (λ (ys : List ℕ). pixels ys x) q
+    ∙ front_pixel b out x (omega arith) (omega arith)
+    ∙ ap (λ (ys : List ℕ). pixels ys x) e
+    ∙ pixels_written n f free x l

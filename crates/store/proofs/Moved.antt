@@ -1,27 +1,23 @@
--- The loop that moves the second of two rows to the first.
+-- Pixels that the library's copies leave.
 use mathlib.Core.List.{List}
-use mathlib.Core.Path.{◌≡◌, refl, ap, ◌∙◌}
-use Prim.Native.Nat.{ℕ, ◌+◌, ◌*◌, ◌<◌, ◌≤◌}
-use native.Mathlib.Nat.{not-suc-le-zero}
-use native.Mathlib.Decide.{ℕ_discrete}
+use mathlib.Core.Path.{◌≡◌, ap, ◌∙◌}
+use Prim.Native.Nat.{ℕ, ◌+◌, ◌-◌, ◌*◌, ◌<◌}
 use native.Mathlib.Omega.{arith}
-use lib.ListN.{length}
-use Rattle.format.specs.declared.Pixel.{Pixel}
-use Rattle.format.specs.Picture.{pixels}
-use Rattle.pixel.specs.Cells.{put_pixel}
-use Rattle.pixel.proofs.Cells.{pixel_same, pixel_other}
+use Rattle.std.specs.List.{CopiedTo}
+use Rattle.format.specs.Picture.{byte_at, pixels}
 
--- of the rows xs₀, w pixels each, the first i pixels have moved
-pub record Moved (w i : ℕ) (xs₀ xs : List ℕ) : Type 0 where
-  pub done : (x : ℕ) → x < i → pixels xs x ≡ pixels xs₀ (w + x)
-  pub rest : (x : ℕ) → i ≤ x → pixels xs x ≡ pixels xs₀ x
-
-pub moved_none : (w : ℕ) (xs : List ℕ) → Moved w 0 xs xs
-moved_none w xs = record { done = λ x l. absurd (not-suc-le-zero l); rest = λ x l. refl }
-
-pub moved_more : (w i : ℕ) (xs₀ xs ys : List ℕ) (v : Pixel) → Moved w i xs₀ xs → ys ≡ put_pixel xs i v → v ≡ pixels xs (w + i) → 4 * i + 4 ≤ length xs → Moved w (i + 1) xs₀ ys
-moved_more w i xs₀ xs ys v m e q room = record { done = λ x l. done x l (ℕ_discrete x i); rest = λ x l. ap (λ (zs : List ℕ). pixels zs x) e ∙ pixel_other xs i v x (λ z. omega arith) ∙ m.rest x (omega arith) }
-  where
-    done : (x : ℕ) → x < i + 1 → Dec (x ≡ i) → pixels ys x ≡ pixels xs₀ (w + x)
-    done x l (yes z) = rw z (ap (λ (zs : List ℕ). pixels zs i) e ∙ pixel_same xs i v room ∙ q ∙ m.rest (w + i) (omega arith))
-    done x l (no d) = ap (λ (zs : List ℕ). pixels zs x) e ∙ pixel_other xs i v x d ∙ m.done x (omega arith)
+-- the second of two rows of w pixels in the place of the first
+pub moved : (w : ℕ) (xs ys : List ℕ) → CopiedTo xs ys (4 * w) 0 (8 * w - 4 * w) → (x : ℕ) → x < w → pixels ys x ≡ pixels xs (w + x)
+unfolding pixels
+moved w xs ys h x l =
+    let at : (k : ℕ) → k < 4 * w → byte_at ys k ≡ byte_at xs (4 * w + (k - 0)) = λ k u. h k 0 (omega arith) (omega arith) in
+    let e0 : 4 * w + (4 * x - 0) ≡ 4 * (w + x) = omega arith in
+    let e1 : 4 * w + (4 * x + 1 - 0) ≡ 4 * (w + x) + 1 = omega arith in
+    let e2 : 4 * w + (4 * x + 2 - 0) ≡ 4 * (w + x) + 2 = omega arith in
+    let e3 : 4 * w + (4 * x + 3 - 0) ≡ 4 * (w + x) + 3 = omega arith in
+    cc (
+      at (4 * x) (omega arith) ∙ ap (byte_at xs) e0,
+      at (4 * x + 1) (omega arith) ∙ ap (byte_at xs) e1,
+      at (4 * x + 2) (omega arith) ∙ ap (byte_at xs) e2,
+      at (4 * x + 3) (omega arith) ∙ ap (byte_at xs) e3,
+    )

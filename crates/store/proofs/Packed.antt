@@ -6,19 +6,14 @@ use Prim.Native.Nat.{ℕ, ◌+◌, ◌*◌, ◌<◌, ◌≤◌}
 use native.Mathlib.Nat.{mod-eq_of_lt, div-eq_of_lt}
 use native.Mathlib.Omega.{arith}
 use lib.Arith.{digits_lt, digits_div, digits_mod}
-use lib.ListN.{length, drop, length-drop}
-use lib.Seq.{length-take-le}
-use Rattle.format.specs.declared.Step.{Step}
 use Rattle.format.specs.Pixel.{pixel}
-use Rattle.format.specs.Picture.{Picture, pixels}
+use Rattle.format.specs.Picture.{Picture, pixels, written}
 use Rattle.format.specs.ColorTable.{per_pixel, range, packed_width, index_of, has_entry, have_entries, column_at, index_at, packed}
-use Rattle.format.specs.Sizes.{Sized}
-use Rattle.format.specs.ValidStep.{ValidStep}
 use Rattle.format.proofs.Choice.{every_at, every_all}
 use Rattle.format.proofs.ColorTable.{per_pixel_pos, digits_same, first_inside, column_inside}
 use Rattle.color_table.proofs.Rows.{packed_fewer}
-use Rattle.format.specs.Stages.{data_of}
-use Rattle.store.specs.Stage.{TableStep}
+use Rattle.format.proofs.Written.{pixels_written}
+use Rattle.store.specs.Stage.{PackedBy}
 use Rattle.pixel.specs.Held.{HoldsRow}
 
 pub packed_in : (w size y : ℕ) (e f g : Picture) (j : ℕ) → j < packed_width size w → ((x : ℕ) → x < w → f x ≡ g (y * w + x)) → packed w size e f j ≡ packed w size e g (y * packed_width size w + j)
@@ -32,6 +27,11 @@ packed_in w size y e f g j l h =
     (digits_same (range n) n (λ k. index_at w size e f 0 (j * n + k)) (λ k. index_at w size e g y (j * n + k))
     (λ k m. ap (λ (x : ℕ). index_of size e (f x)) (z (column_at w (j * n + k))) ∙ ap (index_of size e) (h (column_at w (j * n + k)) (column_inside w (j * n + k) (omega arith))))))
 
+-- a row that was packed
+pub packed_row : (size : ℕ) (e : Picture) (w : ℕ) (row xs ys : List ℕ) → ys ≡ written (packed_width size w) (packed w size e (pixels row)) xs → PackedBy size e w row ys
+packed_row size e w row xs ys q x l =
+    ap (λ (zs : List ℕ). pixels zs x) q ∙ pixels_written (packed_width size w) (packed w size e (pixels row)) xs x l
+
 -- a row of an accepted picture
 pub row_entries : (w h size y : ℕ) (e f : Picture) (xs : List ℕ) → have_entries size e (h * w) f ≡ true → HoldsRow f y w xs → y < h → have_entries size e w (pixels xs) ≡ true
 row_entries w h size y e f xs a r l =
@@ -40,22 +40,3 @@ row_entries w h size y e f xs a r l =
 -- a row has no more records than pixels
 pub packed_few : (size w : ℕ) → 1 ≤ w → w ≤ 16384 → packed_width size w ≤ 16384
 packed_few size w some l = let f = packed_fewer w (per_pixel size) some (per_pixel_pos size) in omega arith
-
--- a valid record that is a table
-pub table_step : (s : Step) (h : ℕ) (ds : List ℕ) → Sized s.width h → ValidStep s h (length ds) → s.kind ≡ 3 → TableStep s ds
-table_step s h ds z v k = record {
-  wide = z.wide;
-  narrow = z.narrow;
-  inside = v.inside;
-  some = (v.table k).some;
-  most = (v.table k).most;
-  long = (v.table k).long;
-}
-
--- its entries are in its part of the data
-pub entries_there : (s : Step) (ds : List ℕ) → TableStep s ds → (part : List ℕ) → part ≡ data_of s ds → 4 * s.size ≤ length part
-entries_there s ds t part e =
-    let i = t.inside in
-    let n = t.long in
-    let l = length-take-le s.length (drop s.offset ds) (rw (length-drop s.offset ds) (omega arith)) in
-    rw e (omega arith)

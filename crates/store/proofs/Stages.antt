@@ -14,7 +14,7 @@ use Rattle.format.proofs.ByKind.{takes_table, takes_other}
 use Rattle.pixel.specs.Held.{HoldsRow}
 use Rattle.chain.specs.declared.Chain.{Chain}
 use Rattle.chain.specs.Valid.{Valid, steps_of, stored_by}
-use Rattle.store.specs.Stage.{Takes, Advanced, Above, HintsFor, RowOf, Accepts}
+use Rattle.store.specs.Stage.{Takes, Advanced, Above, RowOf, Accepts}
 use Rattle.chain.proofs.Valid.{step_sized}
 use Rattle.store.proofs.Packed.{row_entries}
 
@@ -59,13 +59,10 @@ module _ (steps : ℕ → Step) (h : ℕ) (ds : List ℕ) (f : Picture) where
 
 module _ (c : Chain) (ds : List ℕ) (v : Valid c ds) (m : ℕ) (most : m ≤ c.count) where
   -- what record k asks of row y
-  pub takes_row : (f : Picture) (hints row : List ℕ) (k y : ℕ) → HintsFor c ds hints → Accepts c ds m f → RowOf c ds k f y row → k < m → y < c.height → Takes (steps_of c k) ds row hints
-  takes_row f hints row k y hs a r l u = record {
-    found = hs.found k (omega arith);
-    taken = λ e.
-        row_entries (steps_of c k).width c.height (steps_of c k).size y _ (stored_by c ds k f) row
-        (sym (takes_table (steps_of c k) c.height ds (stored_by c ds k f) e) ∙ accepts_at (steps_of c) c.height ds f m k l a) (rw (v.width k (omega arith)) r) u;
-  }
+  pub takes_row : (f : Picture) (row : List ℕ) (k y : ℕ) → Accepts c ds m f → RowOf c ds k f y row → k < m → y < c.height → Takes (steps_of c k) ds row
+  takes_row f row k y a r l u e =
+      row_entries (steps_of c k).width c.height (steps_of c k).size y _ (stored_by c ds k f) row
+      (sym (takes_table (steps_of c k) c.height ds (stored_by c ds k f) e) ∙ accepts_at (steps_of c) c.height ds f m k l a) (rw (v.width k (omega arith)) r) u
 
   module _ (f : Picture) (k y : ℕ) (l : k < m) (row rows row' rows' : List ℕ) (held : RowOf c ds k f y row)
       (above : Above c ds f m k y rows) (adv : Advanced (steps_of c k) ds y row rows row' rows') where

@@ -1,28 +1,37 @@
 -- Where the table of a chain stands.
-use Rattle.std.specs.Prelude.{if◌then◌else◌}
-use mathlib.Core.Bool.{Bool, true, false}
-use mathlib.Core.Path.{◌≡◌, ap, subst}
-use Prim.Native.Nat.{ℕ, ◌+◌, ◌<◌}
-use native.Mathlib.Decide.{ℕ_discrete}
+use mathlib.Core.Path.{◌≡◌, refl, sym, subst, ◌∙◌}
+use Prim.Native.Nat.{ℕ, ◌<◌}
+use native.Mathlib.Decide.{dec_lt}
 use native.Mathlib.Omega.{arith}
+use mathlib.Core.List.{List}
 use Rattle.format.specs.declared.Step.{Step}
+use Rattle.format.specs.Picture.{Picture, pixels}
+use Rattle.format.specs.ColorTable.{packed_width, have_entries}
+use Rattle.format.specs.Chain.{narrowed}
+use Rattle.format.proofs.ByKind.{narrowed_table}
+use Rattle.store.specs.declared.table.Table.{Table}
+use Rattle.format.specs.Stages.{part_of}
+use Rattle.color_table.specs.declared.lookup.Lookup.{Lookup}
+use Rattle.chain.specs.declared.Chain.{Chain}
+use Rattle.chain.specs.Valid.{Valid, steps_of}
+use Rattle.store.specs.Stage.{IsTable, Looks}
 
--- none of the first t records is a table
-pub record NoneBefore (steps : ℕ → Step) (t : ℕ) : Type 0 where
-  pub at : (j : ℕ) → j < t → (steps j).kind ≡ 3 → ⊥
-
-pub none_yet : (steps : ℕ → Step) → NoneBefore steps 0
-none_yet steps = record { at = λ j l e. no l }
+-- the table is the only one
+pub only : (c : Chain) (ds : List ℕ) → Valid c ds → (t : ℕ) → IsTable c t → (j : ℕ) → j < c.count → (steps_of c j).kind ≡ 3 → j ≡ t
+only c ds v t at j u e = go (dec_lt j t) (dec_lt t j)
   where
-    no : {j : ℕ} → j < 0 → ⊥
-    no l = omega arith
+    go : Dec (j < t) → Dec (t < j) → j ≡ t
+    go (yes a) b = absurd (v.once j t a at.below (e ∙ sym at.kind))
+    go (no a) (yes b) = absurd (v.once t j b u (at.kind ∙ sym e))
+    go (no a) (no b) = omega arith
 
-pub none_more : (steps : ℕ → Step) (t : ℕ) → NoneBefore steps t → ((steps t).kind ≡ 3 → ⊥) → NoneBefore steps (t + 1)
-none_more steps t h d = record { at = λ j l e. go j l e (ℕ_discrete j t) }
-  where
-    go : (j : ℕ) → j < t + 1 → (steps j).kind ≡ 3 → Dec (j ≡ t) → ⊥
-    go j l e (yes q) = d (subst (λ (i : ℕ). (steps i).kind ≡ 3) q e)
-    go j l e (no n) = h.at j (omega arith) e
+-- a look-up finds what its record packs by
+pub looked : (s : Step) (ds : List ℕ) (l : Lookup) → Looks s ds l → (w : ℕ) (f : Picture) → have_entries l.size (pixels l.entries.now) w f ≡ have_entries s.size (part_of s ds) w f
+looked s ds l k w f = rw (k.size, k.entries) refl
 
-pub not_both : {A : Type 0} → false ≡ true → A
-not_both e = let n : ◌≡◌ {A = ℕ} 0 1 = ap (λ (b : Bool). if b then 1 else 0) e in absurd (omega arith)
+pub looked_width : (s : Step) (ds : List ℕ) (l : Lookup) → Looks s ds l → s.kind ≡ 3 → (w : ℕ) → s.width ≡ w → packed_width l.size w ≡ narrowed s
+looked_width s ds l k kind w e = rw (k.size, sym e) (sym (narrowed_table s kind))
+
+-- the table's look-up is that of every record that is a table
+pub looks_only : (c : Chain) (ds : List ℕ) → Valid c ds → (b : Table) → IsTable c b.at → Looks (steps_of c b.at) ds b.lookup → (k : ℕ) → IsTable c k → Looks (steps_of c k) ds b.lookup
+looks_only c ds v b at l k is = subst (λ (i : ℕ). Looks (steps_of c i) ds b.lookup) (sym (only c ds v b.at at k is.below is.kind)) l

@@ -1,3 +1,3 @@
 -- What the contracts of `store` cite beside the definitions of `format`.
-pub mod Scratch
 pub mod Stage
+pub mod Turns

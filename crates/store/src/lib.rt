@@ -4,6 +4,8 @@
 
 mod accept;
 mod row;
-mod rows;
+mod scratch;
 mod step;
 pub mod store;
+mod storing;
+mod table;

@@ -1,70 +1,78 @@
 // The largest width and the largest table, and one more of each, where nothing else is at fault. Of the wide pictures
 // the last pixel is shown.
-use crate::calls::both;
+ghost use Rattle.std.specs.Prelude.{◌≤◌, length};
+
+use crate::calls::Stored;
 use crate::print::line;
-use letchwater::{letchwater_rebuild, letchwater_store};
+use letchwater::{letchwater_rebuild, letchwater_store, number};
 use std::io;
+
+// One row by a predictor with one row of blocks, each of 512 columns.
+fn wide(
+    rt: &impl Print,
+    name: &str,
+    width: u32,
+    blocks: &[u8],
+    image: &mut [u8],
+    strip: &mut [u8],
+) -> io::Result<()>
+    requires { (length blocks.now ≤ 255) × (4 ≤ length image.old) × (4 ≤ length strip.old) }
+{
+    let length = blocks.len() as u8;
+    let chain = [0, 9, 0, 0, 0, 0, 0, 0, length, 0, 0, 0, 0, 0, 0, 0];
+    let rebuilt = number(letchwater_rebuild(width, 1, &chain, blocks, image));
+    line(rt, name, ", rebuilt", rebuilt, &image[image.len() - 4..])?;
+    let stored = number(letchwater_store(width, 1, &chain, blocks, image, strip));
+    line(rt, name, ", stored", stored, &strip[strip.len() - 4..])
+}
 
 // Row 0 gains L all along: 16384 ones are 0 modulo 256, and the first red is 6 more.
 fn widest(rt: &impl Print) -> io::Result<()> {
-    let name = "16384 wide, last pixel";
-    let chain = [0, 9, 0, 0, 0, 0, 0, 0, 128, 0, 0, 0, 0, 0, 0, 0];
-    let blocks = [0u8; 128];
     let mut image = [1u8; 65536];
     image[0] = 7;
-    let rebuilt = letchwater_rebuild(16384, 1, &chain, &blocks, &mut image);
-    line(rt, name, ", rebuilt", rebuilt, &image[65532..65536])?;
-    let mut strip = [165u8; 65536];
-    let stored = letchwater_store(16384, 1, &chain, &blocks, &image, &mut strip);
-    line(rt, name, ", stored", stored, &strip[65532..65536])
+    let name = "16384 wide, last pixel";
+    wide(rt, name, 16384, &[0; 128], &mut image, &mut [165; 65536])
 }
 
 fn too_wide(rt: &impl Print) -> io::Result<()> {
     let name = "16385 wide, last pixel";
-    let chain = [0, 9, 0, 0, 0, 0, 0, 0, 132, 0, 0, 0, 0, 0, 0, 0];
-    let blocks = [0u8; 132];
-    let mut image = [1u8; 65540];
-    let rebuilt = letchwater_rebuild(16385, 1, &chain, &blocks, &mut image);
-    line(rt, name, ", rebuilt", rebuilt, &image[65536..65540])?;
-    let mut strip = [165u8; 65540];
-    let stored = letchwater_store(16385, 1, &chain, &blocks, &image, &mut strip);
-    line(rt, name, ", stored", stored, &strip[65536..65540])
+    wide(
+        rt,
+        name,
+        16385,
+        &[0; 132],
+        &mut [1; 65540],
+        &mut [165; 65540],
+    )
+}
+
+fn one_by_one(
+    rt: &impl Print,
+    name: &str,
+    chain: &[u8],
+    data: &[u8],
+    image: &mut [u8],
+) -> io::Result<()> {
+    let stored = Stored {
+        width: 1,
+        height: 1,
+        chain,
+        data,
+    };
+    stored.both(rt, name, image, &mut [165; 4])
 }
 
 fn largest(rt: &impl Print) -> io::Result<()> {
     let chain = [3, 0, 0, 1, 0, 0, 0, 0, 0, 4, 0, 0, 0, 0, 0, 0];
     let mut entries = [0u8; 1024];
-    entries[1020] = 1;
-    entries[1021] = 2;
-    entries[1022] = 3;
-    entries[1023] = 4;
+    entries[1020..].copy_from_slice(&[1, 2, 3, 4]);
     let mut image = [0, 255, 0, 255];
-    both(
-        rt,
-        "size 256, last entry",
-        1,
-        1,
-        &chain,
-        &entries,
-        &mut image,
-        &mut [165; 4],
-    )
+    one_by_one(rt, "size 256, last entry", &chain, &entries, &mut image)
 }
 
 fn too_large(rt: &impl Print) -> io::Result<()> {
     let chain = [3, 0, 1, 1, 0, 0, 0, 0, 4, 4, 0, 0, 0, 0, 0, 0];
-    let entries = [0u8; 1028];
-    let mut image = [0, 0, 0, 0];
-    both(
-        rt,
-        "size 257",
-        1,
-        1,
-        &chain,
-        &entries,
-        &mut image,
-        &mut [165; 4],
-    )
+    one_by_one(rt, "size 257", &chain, &[0; 1028], &mut [0, 0, 0, 0])
 }
 
 pub fn limits(rt: &impl Print) -> io::Result<()> {

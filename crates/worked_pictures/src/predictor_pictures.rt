@@ -1,6 +1,6 @@
 // The predictor. Pixels are R, G, B, A; a residual that makes a neighbor is that neighbor less its own prediction.
-use crate::calls::{both, store};
-use crate::chains::predictor;
+use crate::calls::Stored;
+use crate::chains::PREDICTOR;
 use crate::print::bytes_line;
 use letchwater::letchwater_rebuild;
 use std::io;
@@ -8,47 +8,24 @@ use std::io;
 // The first pixel is predicted as black, the rest of row 0 as L.
 pub fn borders(rt: &impl Print) -> io::Result<()> {
     let data = [0, 7, 0, 255];
-    let mut one = [1, 2, 3, 4];
-    both(
-        rt,
-        "1 by 1",
-        1,
-        1,
-        &predictor(),
-        &data,
-        &mut one,
-        &mut [165; 4],
-    )?;
+    Stored::by_predictor(1, 1, &data).both(rt, "1 by 1", &mut [1, 2, 3, 4], &mut [165; 4])?;
     let mut two = [1, 2, 3, 0, 10, 20, 30, 0];
-    both(
-        rt,
-        "2 by 1",
-        2,
-        1,
-        &predictor(),
-        &data,
-        &mut two,
-        &mut [165; 8],
-    )
+    Stored::by_predictor(2, 1, &data).both(rt, "2 by 1", &mut two, &mut [165; 8])
 }
 
 // The last pixel is off the borders; its top right is the first of its own row. The strip's buffer is longer than
 // needed.
 fn two_by_two(rt: &impl Print, name: &str, mode: u8, residuals: [u8; 16]) -> io::Result<()> {
-    let data = [0, mode, 0, 255];
     let mut image = residuals;
-    let mut strip = [165u8; 18];
-    both(rt, name, 2, 2, &predictor(), &data, &mut image, &mut strip)
+    Stored::by_predictor(2, 2, &[0, mode, 0, 255]).both(rt, name, &mut image, &mut [165; 18])
 }
 
 // Reds 5, 6, 7 as top left, top and left.
-fn reds() -> [u8; 16] {
-    [5, 0, 0, 0, 1, 0, 0, 0, 2, 0, 0, 0, 0, 0, 0, 0]
-}
+const REDS: [u8; 16] = [5, 0, 0, 0, 1, 0, 0, 0, 2, 0, 0, 0, 0, 0, 0, 0];
 
 pub fn inner(rt: &impl Print) -> io::Result<()> {
-    two_by_two(rt, "mode 3, last column", 3, reds())?;
-    two_by_two(rt, "mode 14", 14, reds())?;
+    two_by_two(rt, "mode 3, last column", 3, REDS)?;
+    two_by_two(rt, "mode 14", 14, REDS)?;
     let tie = [0, 0, 0, 0, 0, 10, 0, 0, 10, 0, 0, 0, 0, 0, 0, 0];
     two_by_two(rt, "mode 11, a tie", 11, tie)?;
     // Red has L 200, T 200, TL 100, and green L 10, T 20, TL 100.
@@ -61,68 +38,36 @@ pub fn inner(rt: &impl Print) -> io::Result<()> {
 // Residuals in red alone, of 3 by 2. Pixel 4 has all four neighbors.
 fn three_by_two(reds: [u8; 6]) -> [u8; 24] {
     let mut image = [0u8; 24];
-    image[0] = reds[0];
-    image[4] = reds[1];
-    image[8] = reds[2];
-    image[12] = reds[3];
-    image[16] = reds[4];
-    image[20] = reds[5];
+    for (pixel, red) in image.chunks_exact_mut(4).zip(&reds) {
+        pixel[0] = *red;
+    }
     image
 }
 
 pub fn twice_rounded(rt: &impl Print) -> io::Result<()> {
-    let data = [0, 10, 0, 255];
     let mut image = three_by_two([0, 1, 1, 1, 0, 0]);
-    let mut strip = [165u8; 24];
     let name = "mode 10, twice rounded";
-    both(rt, name, 3, 2, &predictor(), &data, &mut image, &mut strip)
+    Stored::by_predictor(3, 2, &[0, 10, 0, 255]).both(rt, name, &mut image, &mut [165; 24])
 }
 
 // The middle pixel's gain is the next one's loss.
 pub fn stored(rt: &impl Print) -> io::Result<()> {
-    let data = [0, 0, 0, 255];
     let picture = [0, 0, 0, 255, 9, 0, 0, 255, 0, 0, 0, 255];
-    let mut strip = [165u8; 12];
-    store(
-        rt,
-        "3 by 1",
-        3,
-        1,
-        &predictor(),
-        &data,
-        &picture,
-        &mut strip,
-    )
+    Stored::by_predictor(3, 1, &[0, 0, 0, 255]).store(rt, "3 by 1", &picture, &mut [165; 12])
 }
 
 // The red that a mode predicts from L 50, T 80, TR 200, TL 101.
 fn predicted(mode: u8) -> u8 {
-    let data = [0, mode, 0, 255];
     let mut image = three_by_two([101, 235, 120, 205, 0, 0]);
-    letchwater_rebuild(3, 2, &predictor(), &data, &mut image);
+    let _ = letchwater_rebuild(3, 2, &PREDICTOR, &[0, mode, 0, 255], &mut image);
     image[16]
 }
 
 // The format's table of modes.
 pub fn modes(rt: &impl Print) -> io::Result<()> {
-    bytes_line(
-        rt,
-        "modes 0 to 13",
-        &[
-            predicted(0),
-            predicted(1),
-            predicted(2),
-            predicted(3),
-            predicted(4),
-            predicted(5),
-            predicted(6),
-            predicted(7),
-            predicted(8),
-            predicted(9),
-            predicted(10),
-            predicted(11),
-            predicted(12),
-            predicted(13),
-        ],
-    )
+    let mut reds = [0u8; 14];
+    for (mode, red) in (0u8..).zip(&mut reds) {
+        *red = predicted(mode);
+    }
+    bytes_line(rt, "modes 0 to 13", &reds)
 }

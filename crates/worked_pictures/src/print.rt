@@ -1,20 +1,11 @@
 // Lines of output: what a call was given, the number that it answered, and the bytes of the buffer that it wrote.
 use std::io;
 
-fn number(rt: &impl Print, x: u8) -> io::Result<()> {
-    print!(rt; " {x}")
-}
-
-fn numbers(rt: &impl Print, bytes: &[u8]) -> io::Result<()> {
-    for x in bytes {
-        number(rt, *x)?;
-    }
-    Ok(())
-}
-
 pub fn bytes_line(rt: &impl Print, name: &str, bytes: &[u8]) -> io::Result<()> {
     print!(rt; "{name}:")?;
-    numbers(rt, bytes)?;
+    for byte in bytes {
+        print!(rt; " {byte}")?;
+    }
     println!(rt)
 }
 

@@ -1,5 +1,5 @@
 // The color table, and chains of none and of two records.
-use crate::calls::both;
+use crate::calls::Stored;
 use crate::chains::color_table;
 use std::io;
 
@@ -10,17 +10,13 @@ fn five(rt: &impl Print, name: &str, entries: &[u8; 12]) -> io::Result<()> {
     image[0] = 0;
     image[1] = 228;
     image[5] = 254;
-    let mut strip = [165u8; 8];
-    both(
-        rt,
-        name,
-        5,
-        1,
-        &color_table(3, 12),
-        entries,
-        &mut image,
-        &mut strip,
-    )
+    let stored = Stored {
+        width: 5,
+        height: 1,
+        chain: &color_table(3, 12),
+        data: entries,
+    };
+    stored.both(rt, name, &mut image, &mut [165; 8])
 }
 
 // Index 3 is past the size. The clear pixel that it gives is stored where an entry is clear.
@@ -48,8 +44,13 @@ fn entries() -> [u8; 68] {
 // 3 by 1 by a table whose entries tell their index.
 fn three(rt: &impl Print, name: &str, chain: [u8; 16], packed: [u8; 12]) -> io::Result<()> {
     let mut image = packed;
-    let mut strip = [165u8; 12];
-    both(rt, name, 3, 1, &chain, &entries(), &mut image, &mut strip)
+    let stored = Stored {
+        width: 3,
+        height: 1,
+        chain: &chain,
+        data: &entries(),
+    };
+    stored.both(rt, name, &mut image, &mut [165; 12])
 }
 
 // How many indices the format bundles into a pixel of 3 by 1, by the table's size. Unused bits are zero, as in strips
@@ -66,26 +67,28 @@ pub fn bundles(rt: &impl Print) -> io::Result<()> {
 }
 
 pub fn empty_chain(rt: &impl Print) -> io::Result<()> {
-    let mut image = [1, 2, 3, 4];
-    both(rt, "empty chain", 1, 1, b"", b"", &mut image, &mut [165; 5])
+    let stored = Stored {
+        width: 1,
+        height: 1,
+        chain: b"",
+        data: b"",
+    };
+    stored.both(rt, "empty chain", &mut [1, 2, 3, 4], &mut [165; 5])
 }
 
 // 5 by 1 by a table, then a predictor over the two packed pixels, whose block follows the entries in the data.
 pub fn table_then_predictor(rt: &impl Print) -> io::Result<()> {
-    let mut chain = [0u8; 32];
-    // kind, size, length
-    chain[0] = 3;
-    chain[2] = 3;
-    chain[8] = 12;
-    // kind 0: bits, offset, length
-    chain[17] = 2;
-    chain[20] = 12;
-    chain[24] = 4;
-    let data = [1, 2, 3, 4, 0, 0, 0, 0, 9, 10, 11, 12, 0, 0, 0, 255];
+    let stored = Stored {
+        width: 5,
+        height: 1,
+        chain: &[
+            3, 0, 3, 0, 0, 0, 0, 0, 12, 0, 0, 0, 0, 0, 0, 0, 0, 2, 0, 0, 12, 0, 0, 0, 4, 0, 0, 0,
+            0, 0, 0, 0,
+        ],
+        data: &[1, 2, 3, 4, 0, 0, 0, 0, 9, 10, 11, 12, 0, 0, 0, 255],
+    };
     let mut image = [0u8; 20];
     image[1] = 228;
     image[5] = 26;
-    let mut strip = [165u8; 8];
-    let name = "table, then predictor";
-    both(rt, name, 5, 1, &chain, &data, &mut image, &mut strip)
+    stored.both(rt, "table, then predictor", &mut image, &mut [165; 8])
 }

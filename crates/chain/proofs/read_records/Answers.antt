@@ -2,44 +2,51 @@
 use mathlib.Core.Path.{refl, sym, ◌∙◌}
 use native.Mathlib.Omega.{arith}
 use borrow.Author.Rules.{rules}
+use Rattle.std.proofs.lemmas.Result.{err_from_is_err_and}
 use Rattle.format.specs.Chain.{width_at}
 use Rattle.format.specs.Refusals.{records_refusal}
-use Rattle.chain.proofs.Records.{turn, record_refused, record_passed, steps_none, steps_more, width_more, width_fits, all_read}
-use Rattle.chain.proofs.Sizes.{refused_as, whole_chain}
+use Rattle.chain.proofs.Tabled.{checked_same, checked_known}
+use Rattle.chain.proofs.Records.{turn, record_refused, record_passed, steps_none, steps_more, width_more, width_fits, all_passed, all_read}
+use Rattle.chain.proofs.Sizes.{whole_chain}
 use Rattle.chain.proofs.read_records.Goals as goal
 
 pub loop-k-init : goal.loop-k-init
 unfolding width_at records_refusal
-loop-k-init c = (omega arith, refl, refl, refl, c.no_steps-steps.ensures, steps_none _ _ _)
+loop-k-init c = (refl, refl, refl, steps_none _ _ _)
 
 pub check-requires : goal.check-requires
 check-requires c =
-    let l = c.loop-k in
     let r = c.record_at-s.ensures in
-    (width_fits _ l.k _ _ _ l.invariant.3 r.0 c.requires.0.narrow, c.requires.0.low, r.1, r.2)
+    (width_fits _ c.loop-k.k _ _ _ c.loop-k.invariant.1 r.0 c.requires.0.narrow, c.requires.0.low, r.1, r.2)
 
-pub returns-then-answer-ne0 : goal.returns-then-answer-ne0
-unfolding width_at records_refusal
-returns-then-answer-ne0 c =
+pub returns-in_err-steps-clause-refusal : goal.returns-in_err-steps-clause-refusal
+returns-in_err-steps-clause-refusal c =
+    let p = err_from_is_err_and c.from_residual.result c.from_residual.ensures.1 in
     let l = c.loop-k in
-    let t = turn _ _ _ _ l.k _ _ _ _ _ l.invariant.2 l.invariant.3 c.record_at-s.ensures.0 c.used_before.ensures c.check.ensures c.refusal-answer.ensures in
-    let e = record_refused _ _ _ _ _ _ _ _ _ _ t c.if-answer-ne0.true (omega arith) in
-    let p = c.requires in
-    refused_as _ _ _ _ _ _ c.refused.ensures (whole_chain _ _ _ _ p.0 p.1 p.2 ∙ sym e) c.if-answer-ne0.true
+    let r = c.requires in
+    let t = turn _ _ _ _ l.k _ _ _ _ l.invariant.0 l.invariant.1 c.record_at-s.ensures.0 c.used_before.ensures c.check.ensures in
+    rw (p.1, p.2) (record_refused _ _ _ _ _ _ _ _ _ t c.in_err-steps.was c.loop-k-test.true ∙ sym (whole_chain _ _ _ _ r.0 r.1 r.2))
 
 pub width_after-current-requires : goal.width_after-current-requires
-width_after-current-requires c = width_fits _ c.loop-k.k _ _ _ c.loop-k.invariant.3 c.record_at-s.ensures.0 c.requires.0.narrow
+width_after-current-requires c =
+    (checked_known _ _ _ _ _ (sym c.check.ensures ∙ c.in_ok-steps.was), width_fits _ c.loop-k.k _ _ _ c.loop-k.invariant.1 c.record_at-s.ensures.0 c.requires.0.narrow)
 
 pub loop-k-preserved : goal.loop-k-preserved
 loop-k-preserved c =
     let l = c.loop-k in
     let f = c.record_at-s.ensures.0 in
-    let t = turn _ _ _ _ l.k _ _ _ _ _ l.invariant.2 l.invariant.3 (f) c.used_before.ensures c.check.ensures c.refusal-answer.ensures in
-    (omega arith, l.invariant.1, record_passed _ _ _ _ _ _ _ _ _ _ t c.if-answer-ne0.false, width_more _ l.k _ _ _ _ l.invariant.3 f c.width_after-current.ensures, search rules, steps_more _ l.k _ _ l.steps _ l.invariant.5 l.invariant.3 f (omega arith))
+    let was = c.in_ok-steps.was in
+    let t = turn _ _ _ _ l.k _ _ _ _ l.invariant.0 l.invariant.1 f c.used_before.ensures c.check.ensures in
+    let s = checked_same _ _ _ _ _ (sym c.check.ensures ∙ was) in
+    (record_passed _ _ _ _ _ _ _ _ _ t was, width_more _ l.k _ _ _ _ l.invariant.1 f c.width_after-current.ensures, search rules, steps_more _ l.k _ _ l.steps _ l.invariant.3 l.invariant.1 (s ∙ f) (omega arith))
 
-pub returns : goal.returns
-unfolding width_at records_refusal
-returns c =
+pub returns-clause-refusal : goal.returns-clause-refusal
+returns-clause-refusal c =
+    let r = c.requires in
+    sym (all_passed _ _ _ _ c.loop-k.k c.loop-k.invariant.0 (search rules) (whole_chain _ _ _ _ r.0 r.1 r.2))
+
+pub returns-clause-read : goal.returns-clause-read
+returns-clause-read c =
     let l = c.loop-k in
-    let p = c.requires in
-    all_read _ _ _ _ l.k _ l.invariant.2 l.invariant.5 l.invariant.3 (omega arith) refl refl refl refl (whole_chain _ _ _ _ p.0 p.1 p.2)
+    let r = c.requires in
+    all_read _ _ _ _ l.k _ l.invariant.0 l.invariant.3 l.invariant.1 (omega (arith, l.auto.k-end)) refl refl refl (whole_chain _ _ _ _ r.0 r.1 r.2)

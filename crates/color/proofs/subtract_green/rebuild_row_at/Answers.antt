@@ -1,5 +1,5 @@
 -- `rebuild_row_at` meets its contract: the row that is lent has the pixels from y * width on.
-use Rattle.std.proofs.Common.{◌+◌, ◌*◌, ◌≤◌, refl, arith}
+use Rattle.std.proofs.Common.{refl, arith}
 use Rattle.pixel.proofs.Blocks.{row_there}
 use Rattle.color.proofs.Pointwise.{lent}
 use Rattle.color.proofs.subtract_green.rebuild_row_at.Goals as goal

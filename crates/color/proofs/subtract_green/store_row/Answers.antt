@@ -1,25 +1,12 @@
--- `store_row` meets its contract: before each turn the pixels up to i are stored.
-use Rattle.std.proofs.Common.{refl, ◌∙◌, arith}
+-- `store_row` meets its contract: each pixel is stored.
+use Rattle.std.proofs.Common.{refl, rules}
 use Rattle.format.specs.SubtractGreen.{subtract_green, green_stored}
-use Rattle.pixel.proofs.Cells.{run_none}
-use Rattle.color.specs.Row.{everywhere}
-use Rattle.pixel.proofs.Rows.{run_all}
-use Rattle.color.proofs.Pointwise.{turn, held}
+use Rattle.color.specs.Row.{pointwise, everywhere}
+use Rattle.color.proofs.Pointwise.{from_front, held}
 use Rattle.color.proofs.subtract_green.store_row.Goals as goal
 
-pub loop-i-init : goal.loop-i-init
-loop-i-init c = (omega arith, refl, run_none _ _ _ _)
-
-pub loop-i-preserved : goal.loop-i-preserved
-loop-i-preserved c =
-    let l = c.loop-i.invariant in
-    let p = c.write_pixel in (
-      omega arith,
-      p.auto.xs ∙ l.1,
-      turn _ _ _ _ _ _ _ _ l.2 c.read_pixel.ensures c.store_pixel-v.ensures p.ensures (omega arith),
-    )
-
 pub returns : goal.returns
-unfolding green_stored
+unfolding green_stored pointwise
 returns c =
-    λ f y h. held (everywhere subtract_green) _ _ _ _ _ (run_all _ _ _ _ _ c.loop-i.invariant.2 (omega arith)) (λ i l v. refl) (omega arith) f h
+    let e = from_front (everywhere subtract_green) _ _ _ (c.replace.ensures (pointwise (everywhere subtract_green)) (λ ys i v n a b p. search rules)) in
+    λ f y h. held (everywhere subtract_green) (everywhere subtract_green) y c.args.width _ _ e (λ i l v. refl) c.requires f h

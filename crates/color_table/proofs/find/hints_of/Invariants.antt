@@ -1,11 +1,7 @@
 -- `hints_of` meets its contract: before each turn the entries from i on are linked.
-use Prim.Native.Nat.{◌≤◌}
 use Rattle.format.specs.Picture.{pixels}
 use Rattle.color_table.specs.Hints.{Linked}
 use Rattle.color_table.proofs.find.hints_of.Given as goal
 
 abbrev pub invariant-loop-i : goal.invariant-loop-i
-invariant-loop-i l = (l.i ≤ l.size) × Linked l.i l.size (pixels l.entries) l.hints
-
-abbrev pub decreases-loop-i : goal.decreases-loop-i
-decreases-loop-i l = l.i
+invariant-loop-i l = Linked l.i l.size (pixels l.entries) l.hints

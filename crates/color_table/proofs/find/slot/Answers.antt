@@ -1,8 +1,8 @@
--- `slot` meets its contract: a word is its pixel's four bytes joined.
+-- `slot` meets its contract: it is what the word's number gives.
 use native.Mathlib.Omega.{arith}
-use borrow.Author.Rules.{rules}
-use Rattle.color_table.proofs.Words.{slot_word}
+use Rattle.color_table.specs.Hints.{slot_of}
 use Rattle.color_table.proofs.find.slot.Goals as goal
 
 pub returns : goal.returns
-returns c = (slot_word _ (search rules), omega arith)
+unfolding slot_of
+returns c = (rw c.number.ensures, omega arith)

@@ -2,7 +2,6 @@
 use Prim.Native.Nat.{◌≤◌, ◌-◌, ◌%◌}
 use mathlib.Core.Path.{◌≡◌}
 use Rattle.format.specs.Picture.{pixels}
-use Rattle.pixel.specs.Word.{unword}
 use Rattle.color_table.specs.OneOf.{EachOf}
 use Rattle.color_table.proofs.groups.pass.Given as goal
 
@@ -11,7 +10,7 @@ invariant-loop-i l =
     (l.i % 16 ≡ 0)
     × (l.from ≤ l.i)
     × (l.i ≤ l.to)
-    × EachOf (unword l.a) (unword l.b) (pixels l.row) l.from (l.i - l.from)
+    × EachOf l.a l.b (pixels l.row) l.from (l.i - l.from)
 
 abbrev pub decreases-loop-i : goal.decreases-loop-i
 decreases-loop-i l = l.to - l.i

@@ -1,6 +1,6 @@
 -- `padded` meets its contract: before each turn the rows before i are entries, and those from i on are clear.
 use mathlib.Core.Path.{◌≡◌}
-use Prim.Native.Nat.{ℕ, ◌≤◌, ◌<◌, ◌-◌}
+use Prim.Native.Nat.{ℕ, ◌≤◌, ◌<◌}
 use lib.ListN.{length}
 use Rattle.format.specs.Pixel.{clear}
 use Rattle.format.specs.Picture.{pixels}
@@ -9,10 +9,6 @@ use Rattle.color_table.proofs.table.padded.Given as goal
 
 abbrev pub invariant-loop-i : goal.invariant-loop-i
 invariant-loop-i l =
-    (l.i ≤ l.size)
-    × (length l.table ≡ 256)
+    (length l.table ≡ 256)
     × ((j : ℕ) → j < l.i → entry_in l.table j ≡ pixels l.entries j)
     × ((j : ℕ) → l.i ≤ j → entry_in l.table j ≡ clear)
-
-abbrev pub decreases-loop-i : goal.decreases-loop-i
-decreases-loop-i l = l.size - l.i

@@ -5,9 +5,6 @@ use native.Mathlib.Omega.{arith}
 use Rattle.format.specs.Picture.{pixels}
 use Rattle.color_table.proofs.unpack.packed_byte.Goals as goal
 
-pub overflow_cast-result : goal.overflow_cast-result
-overflow_cast-result c = omega (arith, (c.type_inv.part (4 * c.args.k + 1)).fits)
-
 pub returns : goal.returns
 unfolding pixels
 returns c = (refl, omega (arith, (c.type_inv.part (4 * c.args.k + 1)).fits))

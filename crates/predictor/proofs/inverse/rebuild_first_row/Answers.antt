@@ -5,4 +5,5 @@ use Rattle.predictor.proofs.inverse.rebuild_first_row.Goals as goal
 
 pub returns : goal.returns
 returns c =
-    λ bits d. first_row _ bits d _ _ _ c.apply_predictor_transform_0.ensures c.apply_predictor_transform_1.ensures (search rules)
+    λ bits d. let w = c.args.width in
+    first_row w bits d _ _ _ (c.apply_predictor_transform_0.ensures w) (c.apply_predictor_transform_1.ensures w) (search rules)

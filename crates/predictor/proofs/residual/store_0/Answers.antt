@@ -1,24 +1,10 @@
--- `store_0` meets its contract: before each turn the columns up to x are stored.
-use Rattle.std.proofs.Common.{refl, ◌∙◌, arith}
+-- `store_0` meets its contract: each column's residual is given.
+use Rattle.std.proofs.Common.{rules}
+use Rattle.format.specs.Picture.{pixels}
 use Rattle.pixel.specs.Cells.{given}
-use Rattle.pixel.proofs.Cells.{run_none, run_done}
-use Rattle.predictor.proofs.Turn.{run_turn}
+use Rattle.predictor.specs.Row.{around, residual}
 use Rattle.predictor.proofs.residual.store_0.Goals as goal
-
-pub loop-x-init : goal.loop-x-init
-loop-x-init c = (omega arith, omega arith, refl, run_none _ _ _ _)
-
-pub loop-x-preserved : goal.loop-x-preserved
-unfolding given
-loop-x-preserved c =
-    let l = c.loop-x in
-    let p = c.write_pixel in (
-      omega arith,
-      omega arith,
-      p.auto.xs ∙ l.invariant.2,
-      run_turn _ _ _ _ _ _ _ l.invariant.3 c.residual_0-v.ensures p.ensures l.invariant.0,
-    )
 
 pub returns : goal.returns
 unfolding given
-returns c = run_done _ _ _ _ _ _ _ (omega arith) (omega arith) c.loop-x.invariant.3
+returns c = c.replace.ensures (given (residual (around 0 c.args.w) c.args.w (pixels c.args.rows.now))) (λ ys i v n a b p. search rules)

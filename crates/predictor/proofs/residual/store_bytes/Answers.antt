@@ -1,18 +1,16 @@
--- `store_bytes` meets its contract: before each turn the bytes up to i are stored.
-use Rattle.std.proofs.Common.{refl, arith, length-set}
+-- `store_bytes` meets its contract: each byte's residual is given, and bytes are the channels of pixels.
+use Rattle.std.proofs.Common.{◌*◌, rules}
+use Rattle.format.specs.Picture.{byte_at}
 use Rattle.pixel.specs.Cells.{given}
-use Rattle.pixel.proofs.Cells.{run_none, run_more, run_done}
+use Rattle.predictor.specs.Bytewise.{byte_residual}
+use Rattle.predictor.proofs.Bytewise.{bytes_lost}
 use Rattle.predictor.proofs.residual.store_bytes.Goals as goal
-
-pub loop-i-init : goal.loop-i-init
-loop-i-init c = (omega arith, omega arith, refl, run_none _ _ _ _)
-
-pub loop-i-preserved : goal.loop-i-preserved
-unfolding given
-loop-i-preserved c =
-    let l = c.loop-i in
-    (omega arith, omega arith, simp length-set l.invariant.2, run_more _ _ _ _ _ _ _ l.invariant.0 l.invariant.3 c.byte_residual.ensures)
 
 pub returns : goal.returns
 unfolding given
-returns c = run_done _ _ _ _ _ _ _ (omega arith) (omega arith) c.loop-i.invariant.3
+returns g c =
+    let a = c.args in
+    let p = c.requires in
+    bytes_lost g.row.MODE a.w p.channelwise p.in_columns.wide a.rows.now a.from a.to _ _
+    (c.replace.ensures (given (byte_residual g.row.MODE (4 * a.w) (byte_at a.rows.now))) (λ ys i v n l u q. search rules))
+    p.in_columns.off

@@ -4,4 +4,4 @@ use Rattle.predictor.proofs.segment.gain_0.Goals as goal
 
 pub returns : goal.returns
 unfolding predict
-returns c = cc
+returns c = λ w. cc

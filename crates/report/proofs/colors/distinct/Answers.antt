@@ -1,25 +1,13 @@
--- `distinct` meets its contract: before each turn the first k colors are found at their own indices.
-use mathlib.Core.Path.{sym}
-use native.Mathlib.Omega.{arith}
-use Rattle.format.proofs.Report.{own_distinct}
-use Rattle.report.proofs.Own.{own_more, own_not}
+-- `distinct` meets its contract: the test is made of every index.
+use Rattle.std.proofs.Common.{refl, arith, rules, tests}
+use Rattle.std.proofs.lemmas.Iterator.{cases_from_all, YieldsList-from_range}
+use Rattle.format.specs.Picture.{pixels}
+use Rattle.report.proofs.Own.{Own, all_own}
 use Rattle.report.proofs.colors.distinct.Goals as goal
 
-pub loop-k-init : goal.loop-k-init
-loop-k-init c = (omega arith, (λ j l. absurd (omega arith)))
-
-pub word_at-requires : goal.word_at-requires
-word_at-requires c = omega (arith, c.requires.there)
-
-pub find-requires : goal.find-requires
-find-requires c = c.requires
-
-pub returns-then-find-k : goal.returns-then-find-k
-returns-then-find-k c = own_not _ _ c.loop-k.k _ _ c.word_at.ensures c.find.ensures c.if-find-k.true (omega arith)
-
-pub loop-k-preserved : goal.loop-k-preserved
-loop-k-preserved c =
-    (omega arith, own_more _ _ c.loop-k.k _ _ c.loop-k.invariant.1 c.word_at.ensures c.find.ensures c.if-find-k.false)
-
 pub returns : goal.returns
-returns c = let l = c.loop-k in sym (own_distinct _ _ (λ j b. l.invariant.1 j (omega arith)))
+returns c =
+    let l = c.args.list.now in
+    let own = Own l.size (pixels l.entries.now) in
+    all_own l.size (pixels l.entries.now) _
+    (cases_from_all _ _ _ own (λ k. own k → ⊥) c.all.ensures.ran (YieldsList-from_range 0 l.size l.size refl (omega arith)) (λ k q r. search (rules, tests)) (λ k q r. search (rules, tests)))

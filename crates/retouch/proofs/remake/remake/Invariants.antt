@@ -1,6 +1,5 @@
 -- `remake` meets its contract: before each turn none of the first k spots' records is missing, and those are made.
 use mathlib.Core.Path.{◌≡◌}
-use Prim.Native.Nat.{◌-◌, ◌≤◌}
 use lib.ListN.{length}
 use Rattle.chain.specs.Valid.{records_in, stored_by}
 use Rattle.item.specs.Source.{shown}
@@ -10,10 +9,6 @@ use Rattle.retouch.proofs.remake.remake.Given as goal
 
 abbrev pub invariant-loop-k : goal.invariant-loop-k
 invariant-loop-k l =
-    SpotsPassed l.chain l.data (shown l.picture l.point) l.places l.spots.count l.k
-    × MadeTo l.k (stored_by l.chain l.data l.chain.count (shown l.picture l.point)) (records_in l.chain) l.places l.records
-    × (l.k ≤ l.spots.count)
-    × (length l.records ≡ 5)
-
-abbrev pub decreases-loop-k : goal.decreases-loop-k
-decreases-loop-k l = l.spots.count - l.k
+    SpotsPassed l.painted.chain l.painted.«data».now (shown l.painted.picture.now l.painted.point) l.records l.k
+    × MadeTo l.k (stored_by l.painted.chain l.painted.«data».now l.painted.chain.count (shown l.painted.picture.now l.painted.point)) (records_in l.painted.chain) l.records l.made
+    × (length l.made ≡ 5)

@@ -2,18 +2,16 @@
 -- since no other was before it.
 use mathlib.Core.List.{[], ◌∷◌}
 use mathlib.Core.Path.{◌≡◌}
-use Prim.Native.Nat.{◌≤◌, ◌-◌}
+use Prim.Native.Nat.{◌≤◌}
+use lib.ListN.{length, get_or, take}
 use Rattle.format.specs.Retouch.{spot_records}
 use Rattle.chain.specs.Valid.{steps_of}
-use Rattle.retouch.specs.Spots.{Sound, records_of, first_of}
 use Rattle.retouch.proofs.spots.spots_of.Given as goal
 
+-- `spots` is its fields here, places and count: what a ghost field says is stated anew
 abbrev pub invariant-loop-k : goal.invariant-loop-k
 invariant-loop-k l =
-    (records_of l.spots ≡ spot_records (steps_of l.chain) l.k (l.p ∷ []))
-    × (first_of l.spots ≤ l.p)
-    × Sound l.spots
-    × (l.k ≤ l.chain.count)
-
-abbrev pub decreases-loop-k : goal.decreases-loop-k
-decreases-loop-k l = l.chain.count - l.k
+    (take l.spots.1.0 l.spots.0 ≡ spot_records (steps_of l.chain) l.k (l.p ∷ []))
+    × (get_or l.spots.0 0 0 ≤ l.p)
+    × (length l.spots.0 ≡ 5)
+    × (l.spots.1.0 ≤ 5)

@@ -1,0 +1,63 @@
+// A color table with what finds its entries: made once a picture.
+ghost use Rattle.std.specs.Prelude.{◌≡◌, true, ◌*◌, ◌≤◌, length};
+ghost use Rattle.format.specs.Picture.{pixels};
+ghost use Rattle.format.specs.ColorTable.{index_of, has_entry};
+ghost use Rattle.color_table.specs.Hints.{Table};
+ghost use Rattle.color_table.specs.Found.{found};
+
+use crate::find::{hints_of, slot};
+use pixel::word::Word;
+
+#[derive(Drop)]
+pub struct Lookup<'a> {
+    pub entries: &'a [u8],
+    pub size: usize,
+    hints: [u8; 4352],
+    pub ghost table: { Table size entries.now hints },
+}
+
+impl<'a> Lookup<'a> {
+    pub fn new(entries: &'a [u8], size: usize) -> Self
+        requires { (1 ≤ size) × (size ≤ 256) × (4 * size ≤ length entries.now) }
+        ensures { (result.entries.now ≡ entries.now) × (result.size ≡ size) }
+    {
+        let hints = hints_of(entries, size);
+        Lookup {
+            entries,
+            size,
+            hints,
+        }
+    }
+
+    // The lowest index whose entry equals w: the entries of w's slot in turn, lowest first. A slot with no entry holds
+    // 0 as well, and then entry 0 and those linked to it are compared in vain.
+    pub fn find(&self, w: Word) -> Option<usize>
+        ensures { result ≡ found self.now.size (pixels self.now.entries.now) w }
+    {
+        let mut i = self.hints[slot(w)] as usize;
+        while Word::at(self.entries, i) != w {
+            i = self.hints[4096 + i] as usize;
+            if i == 0 {
+                return None;
+            }
+        }
+        Some(i)
+    }
+
+    // The same of a pixel that has an entry.
+    #[inline(always)]
+    pub fn index(&self, w: Word) -> usize
+        requires { has_entry self.now.size (pixels self.now.entries.now) w ≡ true }
+        ensures { result ≡ index_of self.now.size (pixels self.now.entries.now) w }
+    {
+        self.find(w).unwrap()
+    }
+
+    // Whether the first entry of w's slot equals w: with no branch.
+    #[inline(always)]
+    pub fn first_holds(&self, w: Word) -> bool
+        ensures { result ≡ true → has_entry self.now.size (pixels self.now.entries.now) w ≡ true }
+    {
+        Word::at(self.entries, self.hints[slot(w)] as usize) == w
+    }
+}

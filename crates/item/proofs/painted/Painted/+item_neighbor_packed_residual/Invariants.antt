@@ -1,0 +1,17 @@
+-- The measures of the calls that item, neighbor, packed and residual make of each other. An item after k records asks
+-- for items after k - 1, by way of a record's n positions or of a residual's neighbors. A record has at most 8
+-- positions, so that 16 * k leaves room for the calls between.
+use Rattle.std.proofs.Common.{◌+◌, ◌*◌}
+use Rattle.item.proofs.painted.Painted.+item_neighbor_packed_residual.Given as goal
+
+abbrev pub decreases-item : goal.decreases-item
+decreases-item l = 16 * l.k
+
+abbrev pub decreases-neighbor : goal.decreases-neighbor
+decreases-neighbor l = 16 * l.k + 1
+
+abbrev pub decreases-packed : goal.decreases-packed
+decreases-packed l = 16 * l.k + l.n + 1
+
+abbrev pub decreases-residual : goal.decreases-residual
+decreases-residual l = 16 * l.k + 2

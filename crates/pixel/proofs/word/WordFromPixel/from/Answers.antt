@@ -1,0 +1,6 @@
+use Rattle.format.specs.Picture.{pixels}
+use Rattle.pixel.proofs.word.WordFromPixel.from.Goals as goal
+
+pub returns : goal.returns
+unfolding pixels
+returns c = c.from.ensures

@@ -1,0 +1,32 @@
+-- What a loop over a buffer asks of the rule that it is given, and takes from it. n is the buffer's length; the loop
+-- goes over the cells from a up to b.
+use Rattle.std.specs.Borrow.{Bor}
+use Rattle.std.specs.Prelude.{List, ◌≡◌, ℕ, ◌-◌, ◌<◌, ◌≤◌, length}
+use Rattle.format.specs.declared.Pixel.{Pixel}
+use Rattle.format.specs.Picture.{Picture, pixels}
+use Rattle.pixel.specs.Cells.{Cells, Rule}
+
+-- the rule may be asked of any buffer of n bytes
+abbrev pub Asked : (Bor (List ℕ) → ℕ → Type 0) → ℕ → ℕ → ℕ → Type 0
+Asked pre n a b = (ys : Bor (List ℕ)) (i : ℕ) → length ys.now ≡ n → a ≤ i → i < b → pre ys i
+
+-- it gives what h gives
+abbrev pub Gives : {C P : Type 0} → Cells P → (C → P) → (Bor (List ℕ) → ℕ → C → Type 0) → ℕ → ℕ → ℕ → Rule P → Type 0
+Gives {C} c value post n a b h =
+    (ys : Bor (List ℕ)) (i : ℕ) (v : C) → length ys.now ≡ n → a ≤ i → i < b → post ys i v → value v ≡ h (c.get ys.now) i
+
+-- the same of a rule that is given the pixel before as well
+abbrev pub AskedLeft : (Bor (List ℕ) → ℕ → Pixel → Type 0) → ℕ → ℕ → ℕ → Type 0
+AskedLeft pre n a b =
+    (ys : Bor (List ℕ)) (i : ℕ) → length ys.now ≡ n → a ≤ i → i < b → pre ys i (pixels ys.now (i - 1))
+
+abbrev pub GivesLeft : (Bor (List ℕ) → ℕ → Pixel → Pixel → Type 0) → ℕ → ℕ → ℕ → Rule Pixel → Type 0
+GivesLeft post n a b h =
+    (ys : Bor (List ℕ)) (i : ℕ) (v : Pixel) → length ys.now ≡ n → a ≤ i → i < b → post ys i (pixels ys.now (i - 1)) v
+    → v ≡ h (pixels ys.now) i
+
+-- where the pixels up to i are still those of xs, it gives what f gives
+abbrev pub GivesBack : (Bor (List ℕ) → ℕ → Pixel → Type 0) → List ℕ → ℕ → ℕ → Picture → Type 0
+GivesBack post xs a b f =
+    (ys : Bor (List ℕ)) (i : ℕ) (v : Pixel) → length ys.now ≡ length xs → a ≤ i → i < b
+    → ((j : ℕ) → j ≤ i → pixels ys.now j ≡ pixels xs j) → post ys i v → v ≡ f i

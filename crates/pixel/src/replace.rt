@@ -1,0 +1,55 @@
+// Loops over a buffer, whatever rule gives the new cells.
+ghost use Rattle.std.specs.Prelude.{◌≡◌, ◌-◌, ◌*◌, ◌≤◌, length};
+ghost use Rattle.format.specs.declared.Pixel.{Pixel};
+ghost use Rattle.format.specs.Picture.{Picture};
+ghost use Rattle.pixel.specs.Cells.{pixel_cells, Rule, run, given};
+ghost use Rattle.pixel.specs.Calls.{Asked, Gives, AskedLeft, GivesLeft, GivesBack};
+
+use crate::cell::Cell;
+use crate::pixel::{pixel_at, put_pixel};
+use format::Pixel;
+
+// Cells `from` up to `to` replaced in order, each by what `rule` gives of the buffer as it is by then.
+pub fn replace<C: Cell, F: Fn(&[u8], usize) -> C>(xs: &mut [u8], from: usize, to: usize, rule: F)
+    requires inside { (from ≤ to) × (C.cells.size * to ≤ length xs.old) }
+    requires asked { Asked (F.pre rule) (length xs.old) from to }
+    ensures { (h : Rule C.Value) → Gives C.cells C.value (F.post rule) (length xs.old) from to h
+        → xs.new ≡ run C.cells h from (to - from) xs.old }
+{
+    for i in from..to {
+        let v = rule(xs, i);
+        v.put(xs, i);
+    }
+}
+
+// Pixels `from` up to `to` in order, where `rule` is given the pixel before as well: it is not read again.
+pub fn replace_left<F: Fn(&[u8], usize, Pixel) -> Pixel>(
+    xs: &mut [u8],
+    from: usize,
+    to: usize,
+    rule: F,
+)
+    requires inside { (1 ≤ from) × (from ≤ to) × (4 * to ≤ length xs.old) }
+    requires asked { AskedLeft (F.pre rule) (length xs.old) from to }
+    ensures { (h : Rule Pixel) → GivesLeft (F.post rule) (length xs.old) from to h
+        → xs.new ≡ run pixel_cells h from (to - from) xs.old }
+{
+    let mut left = pixel_at(xs, from - 1);
+    for i in from..to {
+        left = rule(xs, i, left);
+        put_pixel(xs, i, left);
+    }
+}
+
+// Pixels `from` up to `to` from the last to the first.
+pub fn replace_back<F: Fn(&[u8], usize) -> Pixel>(xs: &mut [u8], from: usize, to: usize, rule: F)
+    requires inside { (from ≤ to) × (4 * to ≤ length xs.old) }
+    requires asked { Asked (F.pre rule) (length xs.old) from to }
+    ensures { (f : Picture) → GivesBack (F.post rule) xs.old from to f
+        → xs.new ≡ run pixel_cells (given f) from (to - from) xs.old }
+{
+    for i in (from..to).rev() {
+        let v = rule(xs, i);
+        put_pixel(xs, i, v);
+    }
+}

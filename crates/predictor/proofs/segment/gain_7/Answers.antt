@@ -1,7 +1,0 @@
--- `gain_7` meets its contract: its prediction is line 7 of the table of modes.
-use Rattle.format.specs.Predictor.{predict}
-use Rattle.predictor.proofs.segment.gain_7.Goals as goal
-
-pub returns : goal.returns
-unfolding predict
-returns c = cc

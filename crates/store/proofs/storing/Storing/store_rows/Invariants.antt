@@ -1,0 +1,12 @@
+-- `store_rows` meets its contract: before each turn the rows before y are stored, and the row above is at hand.
+use mathlib.Core.Path.{◌≡◌}
+use Prim.Native.Nat.{◌*◌}
+use Rattle.format.specs.Picture.{pixels}
+use Rattle.pixel.specs.Cells.{pixel_cells, run, given}
+use Rattle.chain.specs.Valid.{stored_by}
+use Rattle.store.specs.Turns.{AboveIn}
+use Rattle.store.proofs.storing.Storing.store_rows.Given as goal
+
+abbrev pub invariant-loop-y : goal.invariant-loop-y
+invariant-loop-y l =
+    (l.strip ≡ run pixel_cells (given (stored_by l.self.chain l.self.«data».now l.self.chain.count (pixels l.self.picture.now))) 0 (l.y * l.self.chain.strip.0) l.initial.strip) × AboveIn l.self l.self.chain.count 0 l.y l.scratch.rows

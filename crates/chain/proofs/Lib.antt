@@ -2,4 +2,3 @@ pub mod Tabled
 pub mod Valid
 pub mod Records
 pub mod Sizes
-pub mod Parts

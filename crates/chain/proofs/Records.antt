@@ -1,5 +1,5 @@
 -- The loop over a chain's records: a turn reads record k as s, where the current width is x, and tests it.
-use Rattle.std.specs.Prelude.{Result, Ok, Err, IsErrAnd}
+use Rattle.std.specs.Prelude.{Result, Ok, Err}
 use mathlib.Core.Bool.{Bool}
 use mathlib.Core.List.{List}
 use mathlib.Core.Path.{◌≡◌, sym, ap, ◌∙◌}
@@ -17,14 +17,9 @@ use Rattle.format.specs.Refusals.{used_before, checked, number, returned, record
 use Rattle.format.proofs.Valid.{records_next, refusal_lasts}
 use Rattle.format.proofs.Stages.{width_record, width_at_fewer}
 use Rattle.chain.specs.declared.Chain.{Chain}
-use Rattle.chain.specs.Valid.{no_step}
-use Rattle.chain.specs.Reading.{StepsTo, ChainOf, Read}
+use Rattle.chain.specs.Valid.{no_step, Valid}
+use Rattle.chain.specs.Reading.{StepsTo, ChainOf}
 use Rattle.chain.proofs.Valid.{valid_of}
-
--- what `?` hands on has the refusal's number
-pub passed_on : {A : Type 0} (r : Result A Refusal) (e : Refusal) → IsErrAnd r (λ d. d ≡ e) → returned r ≡ number e
-passed_on (Ok v) e i = absurd i
-passed_on (Err d) e i = ap number i
 
 -- a refusal's number is not 0
 pub number_some : (r : Refusal) → number r ≡ 0 → ⊥
@@ -96,9 +91,11 @@ module _ (w h : ℕ) (cs ds : List ℕ) (k : ℕ) where
   pub all_passed : records_refusal cs w h ds k ≡ 0 → k ≡ count cs → input_refusal w h cs ds ≡ records_refusal cs w h ds (count cs) → input_refusal w h cs ds ≡ 0
   all_passed r q e = e ∙ rw q at r
 
-  pub all_read : (c : Chain) → records_refusal cs w h ds k ≡ 0 → StepsTo k w cs c.steps → c.strip.0 ≡ width_at cs w k
-      → k ≡ count cs → c.count ≡ count cs → c.width.0 ≡ w → c.height ≡ h
-      → input_refusal w h cs ds ≡ records_refusal cs w h ds (count cs) → Read w h cs ds c
-  all_read c r s x q n i j e =
-      let of : ChainOf w h cs c = record { count = n; steps = record { at = λ a l. s.at a (omega arith) }; width = i; height = j; strip = rw q at x } in
-      record { of = of; valid = valid_of w h cs ds c (all_passed r q e) of }
+  -- of what is read then
+  module _ (c : Chain) (r : records_refusal cs w h ds k ≡ 0) (s : StepsTo k w cs c.steps) (x : c.strip.0 ≡ width_at cs w k) (q : k ≡ count cs)
+      (n : c.count ≡ count cs) (i : c.width.0 ≡ w) (j : c.height ≡ h) where
+    pub all_of : ChainOf w h cs c
+    all_of = record { count = n; steps = record { at = λ a l. s.at a (omega arith) }; width = i; height = j; strip = rw q at x }
+
+    pub all_valid : input_refusal w h cs ds ≡ records_refusal cs w h ds (count cs) → Valid c ds
+    all_valid e = valid_of w h cs ds c (all_passed r q e) all_of

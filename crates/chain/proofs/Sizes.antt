@@ -1,7 +1,7 @@
 -- Tests 1 and 2: what the code's tests say of the definition's refusal.
-use mathlib.Core.Bool.{true, ◌&&◌}
+use mathlib.Core.Bool.{true}
 use mathlib.Core.List.{List}
-use mathlib.Core.Path.{◌≡◌, refl}
+use mathlib.Core.Path.{◌≡◌}
 use Prim.Native.Nat.{ℕ, ◌%◌, ◌≤◌}
 use borrow.Author.Tests.{eq-eqb, le-leb, leb-true}
 use lib.Dec.{leb, eqb}
@@ -21,8 +21,10 @@ sized w h wide tall = record {
   low = leb-true h 16384 (and_right (leb 1 h) (leb h 16384) tall);
 }
 
+pub in-range : (x : ℕ) → 1 ≤ x → x ≤ 16384 → in_range x ≡ true
+in-range x a b = and_both (leb 1 x) (leb x 16384) (le-leb 1 x a) (le-leb x 16384 b)
+
 -- tests 1 and 2 passed
 pub whole_chain : (w h : ℕ) (cs ds : List ℕ) → Sized w h → length cs % 16 ≡ 0 → length cs ≤ 64 → input_refusal w h cs ds ≡ records_refusal cs w h ds (count cs)
 whole_chain w h cs ds s e l =
-    let in-range : (in_range w && in_range h) ≡ true = rw (le-leb 1 w s.wide, le-leb w 16384 s.narrow, le-leb 1 h s.tall, le-leb h 16384 s.low) refl in
-    chain_records w h cs ds in-range (and_both (eqb (length cs % 16) 0) (leb (length cs) 64) (eq-eqb (length cs % 16) 0 e) (le-leb (length cs) 64 l))
+    chain_records w h cs ds (and_both (in_range w) (in_range h) (in-range w s.wide s.narrow) (in-range h s.tall s.low)) (and_both (eqb (length cs % 16) 0) (leb (length cs) 64) (eq-eqb (length cs % 16) 0 e) (le-leb (length cs) 64 l))

@@ -1,21 +1,23 @@
 // A chain's bytes read once into plain values, or refused.
 #![tactic(auto)]
 
+pub mod record;
+
 ghost use Rattle.std.specs.Prelude.{IfOk, ◌≡◌, true, ◌+◌, ◌*◌, ◌%◌, ◌<◌, ◌≤◌, length};
 ghost use Rattle.format.specs.Sizes.{Sized};
 ghost use Rattle.format.specs.Chain.{le16, le32, record_at, narrowed};
 ghost use Rattle.format.specs.Refusals.{used_before, blocks_tabled, green_tabled, table_tabled, tabled, block_bytes};
 ghost use Rattle.format.specs.Refusals.{tabled_length, checked, returned, in_range, input_refusal};
 ghost use Rattle.format.specs.Calls.{pair_refusal};
-ghost use Rattle.format.specs.Stages.{data_of};
 ghost use Rattle.chain.specs.Reading.{Read, Opened};
 
+use crate::record::ValidChain;
 use format::{Refusal, Step, TransformType};
 use pixel::block::subsample_size;
 use pixel::stride::{Expanded, Packed, packed_width};
 
-// A valid chain as plain values, for a picture of its width and height. The first `count` steps are its records.
-// `strip` is the strip's width, which is the current width after the last record.
+// A valid chain as plain values, for a picture of its width and height. The first `count` steps are its records, in an
+// array since there is no heap. `strip` is the strip's width, which is the current width after the last record.
 #[derive(Clone, Copy)]
 pub struct Chain {
     pub count: usize,
@@ -36,27 +38,19 @@ const NO_STEP: Step = Step {
     width: 0,
 };
 
-// The part of the data that a record names.
-pub fn part_of(data: &[u8], s: Step) -> &[u8]
-    requires { s.offset + s.length ≤ length «data».now }
-    ensures { result.now ≡ data_of s «data».now }
-{
-    &data[s.offset..s.offset + s.length]
-}
-
 // Little-endian numbers of 16 and of 32 bits.
 fn le16(xs: &[u8], i: usize) -> usize
     requires { i + 2 ≤ length xs.now }
     ensures { (result ≡ le16 xs.now i) × (result < 65536) }
 {
-    u16::from_le_bytes([xs[i], xs[i + 1]]) as usize
+    u16::from_le_bytes(*xs[i..].first_chunk().unwrap()) as usize
 }
 
 pub fn le32(xs: &[u8], i: usize) -> usize
     requires { i + 4 ≤ length xs.now }
     ensures { (result ≡ le32 xs.now i) × (result < 4294967296) }
 {
-    u32::from_le_bytes([xs[i], xs[i + 1], xs[i + 2], xs[i + 3]]) as usize
+    u32::from_le_bytes(*xs[i..].first_chunk().unwrap()) as usize
 }
 
 #[tactic(auto, unfolding(format::specs::Chain::record_at))]
@@ -89,7 +83,7 @@ fn used_before(chain: &[u8], k: usize) -> bool
 fn blocks_tabled(s: Step) -> bool
     ensures { result ≡ blocks_tabled s }
 {
-    2 <= s.bits && s.bits <= 9 && s.size == 0
+    (2..=9).contains(&s.bits) && s.size == 0
 }
 
 fn green_tabled(s: Step) -> bool
@@ -101,7 +95,7 @@ fn green_tabled(s: Step) -> bool
 fn table_tabled(s: Step) -> bool
     ensures { result ≡ table_tabled s }
 {
-    s.bits == 0 && 1 <= s.size && s.size <= 256
+    s.bits == 0 && (1..=256).contains(&s.size)
 }
 
 // Whether bits, size, offset and the zero bytes are as tabled.
@@ -175,7 +169,12 @@ fn width_after(s: Step) -> usize
     }
 }
 
-fn read_records(width: usize, height: usize, chain: &[u8], data: &[u8]) -> Result<Chain, Refusal>
+fn read_records<'a>(
+    width: usize,
+    height: usize,
+    chain: &[u8],
+    data: &'a [u8],
+) -> Result<ValidChain<'a>, Refusal>
     requires { Sized width height × (length chain.now % 16 ≡ 0) × (length chain.now ≤ 64) }
     ensures refusal { returned result ≡ input_refusal width height chain.now «data».now }
     ensures read { IfOk result (Read width height chain.now «data».now) }
@@ -183,18 +182,20 @@ fn read_records(width: usize, height: usize, chain: &[u8], data: &[u8]) -> Resul
     let mut steps = [NO_STEP; 4];
     let count = chain.len() / 16;
     let mut current = width;
+    // By the index: a record is read by its number, and the first that is refused ends the call.
     for k in 0..count {
         let s = record_at(chain, k, current);
         steps[k] = check(s, used_before(chain, k), height, data)?;
         current = width_after(s);
     }
-    Ok(Chain {
+    let chain = Chain {
         count,
         steps,
         width: Expanded(width),
         height,
         strip: Packed(current),
-    })
+    };
+    Ok(ValidChain { chain, data })
 }
 
 pub fn in_range(size: usize) -> bool
@@ -205,7 +206,12 @@ pub fn in_range(size: usize) -> bool
 
 // Tests 1 to 7.
 #[tactic(auto, using(format::proofs::Valid::chain_unsized, format::proofs::Valid::chain_broken))]
-pub fn read_chain(width: usize, height: usize, chain: &[u8], data: &[u8]) -> Result<Chain, Refusal>
+pub fn read_chain<'a>(
+    width: usize,
+    height: usize,
+    chain: &[u8],
+    data: &'a [u8],
+) -> Result<ValidChain<'a>, Refusal>
     ensures refusal { returned result ≡ input_refusal width height chain.now «data».now }
     ensures read { IfOk result (Read width height chain.now «data».now) }
 {
@@ -220,20 +226,20 @@ pub fn read_chain(width: usize, height: usize, chain: &[u8], data: &[u8]) -> Res
 
 // Tests 1 to 8 of the calls that have a picture and its strip.
 #[tactic(auto, unfolding(format::specs::Calls::pair_refusal))]
-pub fn open(
+pub fn open<'a>(
     width: usize,
     height: usize,
     chain: &[u8],
-    data: &[u8],
+    data: &'a [u8],
     picture: &[u8],
     strip: &[u8],
-) -> Result<Chain, Refusal>
+) -> Result<ValidChain<'a>, Refusal>
     ensures refusal { returned result ≡ pair_refusal width height chain.now «data».now picture.now strip.now }
     ensures opened { IfOk result (Opened width height chain.now «data».now picture.now strip.now) }
 {
     let read = read_chain(width, height, chain, data)?;
-    let picture_bytes = 4 * (read.height * read.width.0);
-    let strip_bytes = 4 * (read.height * read.strip.0);
+    let picture_bytes = 4 * (read.chain.height * read.chain.width.0);
+    let strip_bytes = 4 * (read.chain.height * read.chain.strip.0);
     if picture.len() < picture_bytes || strip.len() < strip_bytes {
         return Err(Refusal::ShortBuffer);
     }

@@ -1,22 +1,18 @@
 // The color transform.
-ghost use Rattle.std.specs.Prelude.{◌≡◌, ◌+◌, ◌*◌, ◌/◌, ◌^◌, ◌<◌, ◌≤◌, length};
+ghost use Rattle.std.specs.Prelude.{◌≡◌, ◌*◌, ◌<◌, ◌≤◌, length};
 ghost use Rattle.format.specs.declared.Pixel.{Pixel};
 ghost use Rattle.format.specs.Color.{inverse_color, transform_color};
-ghost use Rattle.format.specs.Picture.{pixels, ceiling};
-ghost use Rattle.format.specs.Sizes.{Sized, Holds, Blocked};
-ghost use Rattle.pixel.specs.Blocks.{BlockedRow};
-ghost use Rattle.pixel.specs.Held.{HoldsRow};
+ghost use Rattle.format.specs.Sizes.{Holds};
 ghost use Rattle.color.specs.Factors.{PixelBy};
 ghost use Rattle.color.specs.Row.{made_by, row_made, color_row, ColorRowStored};
 
+use crate::each::make_each;
 use crate::factor::Factors;
 use format::Pixel;
-use pixel::block::{block_end, subsample_size};
-use pixel::pixel::pixel_at;
-use pixel::replace::replace;
-use pixel::word::Word;
+use pixel::block::{BlockRow, Blocks};
 
-// Rebuilding or storing.
+// Rebuilding or storing. The two bodies are no plainer as one: they add or subtract, and blue is made of the red before
+// or after.
 trait Direction {
     ghost rule: { Pixel → Pixel → Pixel };
 
@@ -73,67 +69,33 @@ fn make_segment<D: Direction>(row: &mut [u8], from: usize, to: usize, e: Pixel)
     ensures { row.new ≡ made_by (D.rule e) from to row.old }
 {
     let factors = Factors::from(e);
-    replace(row, from, to, |row: &[u8], i: usize| {
-        Word::from(D::make(factors, Pixel::from(Word::at(row, i))))
-    });
+    make_each(row, from, to, |v: Pixel| D::make(factors, v));
 }
 
-// A row, with the data of its row of blocks.
-fn make_row<D: Direction>(row: &mut [u8], width: usize, bits: u32, blocks: &[u8])
-    requires blocked_row { BlockedRow width bits blocks.now }
-    requires inside { 4 * width ≤ length row.old }
-    ensures { row.new ≡ row_made D.rule width bits blocks.now row.old }
+// A row, with the data pixels of its blocks.
+fn make_row<D: Direction>(row: &mut [u8], blocks: &BlockRow)
+    requires { 4 * blocks.now.width ≤ length row.old }
+    ensures { row.new ≡ row_made D.rule blocks.now.width blocks.now.bits blocks.now.bytes.now row.old }
 {
-    let mut x = 0;
-    // No loop over an index: a step is a block, and the last block may have fewer columns.
-    while x < width {
-        let end = block_end(x, bits, width);
-        make_segment::<D>(row, x, end, pixel_at(blocks, x >> bits));
-        x = end;
+    for k in 0..blocks.count() {
+        make_segment::<D>(row, blocks.start(k), blocks.start(k + 1), blocks.at(k));
     }
 }
 
-// The data of the row of blocks that row y is in.
-fn blocks_of_row(blocks: &[u8], width: usize, height: usize, bits: u32, y: usize) -> &[u8]
-    requires sized { Sized width height × Blocked width height bits blocks.now × (y < height) }
-    ensures blocked_row { BlockedRow width bits result.now }
-    ensures holds { HoldsRow (pixels blocks.now) (y / 2 ^ bits) (ceiling width (2 ^ bits)) result.now }
-{
-    let bx = subsample_size(width, bits);
-    let from = 4 * ((y >> bits) * bx);
-    let to = from + 4 * bx;
-    &blocks[from..to]
-}
-
 // Row y of the picture, in its place there.
-pub fn rebuild_row_at(
-    image: &mut [u8],
-    width: usize,
-    height: usize,
-    bits: u32,
-    blocks: &[u8],
-    y: usize,
-)
-    requires sized { Sized width height × Blocked width height bits blocks.now × (y < height) }
-    requires holds { Holds width height image.old }
-    ensures { image.new ≡ color_row width bits blocks.now y image.old }
+pub fn rebuild_row_at(image: &mut [u8], blocks: &Blocks, y: usize)
+    requires { Holds blocks.now.width blocks.now.height image.old × (y < blocks.now.height) }
+    ensures { image.new ≡ color_row blocks.now.width blocks.now.bits blocks.now.bytes.now y image.old }
 {
-    let blocks = blocks_of_row(blocks, width, height, bits, y);
-    let a = 4 * (y * width);
-    let b = a + 4 * width;
-    make_row::<Rebuild>(&mut image[a..b], width, bits, blocks);
+    let a = 4 * (y * blocks.width);
+    let b = a + 4 * blocks.width;
+    make_row::<Rebuild>(&mut image[a..b], &blocks.row(y));
 }
 
 // Row y of the picture, in a buffer of its own.
-pub fn store_row(row: &mut [u8], width: usize, height: usize, bits: u32, blocks: &[u8], y: usize)
-    requires sized { Sized width height × Blocked width height bits blocks.now × (y < height) }
-    requires width_in_bounds { 4 * width ≤ length row.old }
-    ensures { ColorRowStored width bits blocks.now y row.old row.new }
+pub fn store_row(row: &mut [u8], blocks: &Blocks, y: usize)
+    requires { (4 * blocks.now.width ≤ length row.old) × (y < blocks.now.height) }
+    ensures { ColorRowStored blocks.now.width blocks.now.bits blocks.now.bytes.now y row.old row.new }
 {
-    make_row::<Store>(
-        row,
-        width,
-        bits,
-        blocks_of_row(blocks, width, height, bits, y),
-    );
+    make_row::<Store>(row, &blocks.row(y));
 }

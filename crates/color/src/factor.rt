@@ -30,7 +30,7 @@ impl Model for Factor {
 impl From<u8> for Factor {
     ghost from_gives = { λ t m. m ≡ t };
 
-    // In 32 bits: from bytes, two factors share a register, and what multiplies by them is slower by a fifth.
+    // In 32 bits: from bytes, two factors share a register, and what multiplies by them is slower.
     fn from(t: u8) -> Factor {
         let t = t as u32;
         Factor {

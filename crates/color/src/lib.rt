@@ -2,5 +2,6 @@
 #![tactic(auto)]
 
 pub mod color;
+mod each;
 mod factor;
 pub mod subtract_green;

@@ -1,13 +1,10 @@
 // The subtract green transform.
-ghost use Rattle.std.specs.Prelude.{◌≡◌, ◌*◌, ◌<◌, ◌≤◌, length};
+ghost use Rattle.std.specs.Prelude.{◌≡◌, ◌+◌, ◌*◌, ◌≤◌, length};
 ghost use Rattle.format.specs.SubtractGreen.{add_green, subtract_green};
-ghost use Rattle.format.specs.Sizes.{Sized, Holds};
-ghost use Rattle.pixel.specs.Cells.{pixel_cells, run};
-ghost use Rattle.color.specs.Row.{pointwise, everywhere, green_row, GreenRowStored};
+ghost use Rattle.color.specs.Row.{green_row, GreenRowStored};
 
+use crate::each::make_each;
 use format::Pixel;
-use pixel::replace::replace;
-use pixel::word::Word;
 
 fn rebuild_pixel(v: Pixel) -> Pixel
     ensures { result ≡ add_green v }
@@ -20,6 +17,7 @@ fn rebuild_pixel(v: Pixel) -> Pixel
     }
 }
 
+// No plainer with the above in one: it would take a parameter for what is done to a byte.
 pub fn store_pixel(v: Pixel) -> Pixel
     ensures { result ≡ subtract_green v }
 {
@@ -31,24 +29,14 @@ pub fn store_pixel(v: Pixel) -> Pixel
     }
 }
 
-fn rebuild_row(row: &mut [u8], width: usize)
-    requires { 4 * width ≤ length row.old }
-    ensures { row.new ≡ run pixel_cells (pointwise (everywhere add_green)) 0 width row.old }
-{
-    replace(row, 0, width, |row: &[u8], i: usize| {
-        Word::from(rebuild_pixel(Pixel::from(Word::at(row, i))))
-    });
-}
-
 // Row y of the picture, in its place there.
-pub fn rebuild_row_at(image: &mut [u8], width: usize, height: usize, y: usize)
-    requires sized { Sized width height × (y < height) }
-    requires holds { Holds width height image.old }
+pub fn rebuild_row_at(image: &mut [u8], width: usize, y: usize)
+    requires { 4 * (y * width + width) ≤ length image.old }
     ensures { image.new ≡ green_row width y image.old }
 {
     let a = 4 * (y * width);
     let b = a + 4 * width;
-    rebuild_row(&mut image[a..b], width);
+    make_each(&mut image[a..b], 0, width, |v: Pixel| rebuild_pixel(v));
 }
 
 // A row of the picture, in a buffer of its own.
@@ -56,7 +44,5 @@ pub fn store_row(row: &mut [u8], width: usize)
     requires { 4 * width ≤ length row.old }
     ensures { GreenRowStored width row.old row.new }
 {
-    replace(row, 0, width, |row: &[u8], i: usize| {
-        Word::from(store_pixel(Pixel::from(Word::at(row, i))))
-    });
+    make_each(row, 0, width, |v: Pixel| store_pixel(v));
 }

@@ -45,20 +45,6 @@ module _ (xs : List ℕ) where
   abbrev pub losses : Rule ℕ
   losses = given (unadjusted (byte_at xs))
 
-  back : (i n : ℕ) → set (run byte_cells losses (suc i) n xs) i (unadjusted (byte_at xs) i) ≡ run byte_cells losses i (suc n) xs
-  unfolding given
-  back i n = run_prepend byte_cells byte_lawful (unadjusted (byte_at xs)) i xs n
-
-  -- one byte more, back to front: what it is made of stands as at first
-  pub unadjusted_more : (zs : List ℕ) (i v : ℕ) → zs ≡ run byte_cells losses (suc i) (length xs - suc i) xs → v ≡ sub (byte_at zs i) (byte_at zs (i - 4)) → 4 ≤ i → i < length xs
-      → set zs i v ≡ run byte_cells losses i (length xs - i) xs
-  unadjusted_more zs i v e q l u =
-      let kept : (j : ℕ) → j ≤ i → byte_at zs j ≡ byte_at xs j = λ j m.
-      ap (λ (ys : List ℕ). byte_at ys j) e ∙ run_before byte_cells byte_lawful losses (suc i) xs (length xs - suc i) j (omega arith) in
-      let n : length xs - i ≡ suc (length xs - suc i) = omega arith in
-      let w : v ≡ unadjusted (byte_at xs) i = q ∙ cc (kept i (omega arith), kept (i - 4) (omega arith)) ∙ sym (unadjusted_at (byte_at xs) i l) in
-      rw (n, w, e) (back i (length xs - suc i))
-
   -- down to index 4
   loss : (i : ℕ) → i < length xs → Dec (i < 4) → byte_at (run byte_cells losses 4 (length xs - 4) xs) i ≡ unadjusted (byte_at xs) i
   unfolding given

@@ -18,7 +18,7 @@ use Rattle.pixel.specs.Stride.{Places}
 use Rattle.pixel.proofs.Blocks.{row_there}
 use Rattle.pixel.proofs.Cells.{pixel_lawful, run_at}
 use Rattle.pixel.proofs.Places.{by_places}
-use Rattle.color_table.specs.Table.{entry_in, TableOf, ColumnsOf}
+use Rattle.color_table.specs.Table.{entry_in, column_in, TableOf, ColumnsOf}
 
 -- no entries
 
@@ -61,16 +61,13 @@ padded_whole size i e t h z q = record { at = λ j l. go j (dec_lt j size) }
 
 -- the columns of every byte
 
-pub range_small : (n : ℕ) → Places n → (1 ≤ range n) × (range n ≤ 256)
+range_small : (n : ℕ) → Places n → (1 ≤ range n) × (range n ≤ 256)
 range_small n h = by_places (λ m. (1 ≤ range m) × (range m ≤ 256)) (omega arith, omega arith) (omega arith, omega arith) (omega arith, omega arith) (omega arith, omega arith) n h
 
-pub rest_small : (x m n : ℕ) → Places n → m ≡ range n → x % m < 256
+rest_small : (x m n : ℕ) → Places n → m ≡ range n → x % m < 256
 rest_small x m n h q = let r = range_small n h in omega (arith, mod-lt x {m = m} (omega arith))
 
 -- pixel i, by the table t
-unfoldable pub column_in : ℕ → List (List ℕ) → Picture
-column_in n t i = entry_in t (index_in n (i / n) (i % n))
-
 pub column-in : (n : ℕ) (t : List (List ℕ)) (i j : ℕ) (v : Pixel) → v ≡ entry_in t j → j ≡ index_in n (i / n) (i % n) → v ≡ column_in n t i
 unfolding column_in
 column-in n t i j v p q = p ∙ ap (entry_in t) q

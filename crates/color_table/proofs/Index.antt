@@ -1,15 +1,18 @@
 -- The lowest index of a pixel, by looking at each entry; pixels that are one of two; acceptance.
 use Rattle.std.specs.Prelude.{if◌then◌else◌, Option, Some, None}
-use Rattle.std.specs.Option.{is_some}
+use Rattle.std.specs.List.{range_with_len, list_all}
+use Rattle.std.specs.Bool.{⊤}
+use Rattle.std.specs.Option.{is_some, MatchOption, unwrap_or}
 use Rattle.std.proofs.lemmas.Option.{none-some, same_Some}
-use mathlib.Core.Bool.{Bool, true, false, ◌&&◌, ◌||◌, true≢false}
+use mathlib.Core.Bool.{Bool, true, false, not, ◌&&◌, ◌||◌, true≢false}
 use mathlib.Core.Path.{◌≡◌, refl, sym, ap, ◌∙◌}
-use Prim.Native.Nat.{ℕ, zero, suc, ◌+◌, ◌-◌, ◌*◌, ◌<◌, ◌≤◌}
+use Prim.Native.Nat.{ℕ, zero, suc, ◌+◌, ◌-◌, ◌*◌, ◌/◌, ◌%◌, ◌<◌, ◌≤◌, min}
 use native.Mathlib.Nat.{zero-add, add-zero}
 use native.Mathlib.Decide.{ℕ_discrete, dec_lt}
 use native.Mathlib.Omega.{arith}
 use borrow.Author.Tests.{lt-ltb, le-ltb, ltb-true}
 use lib.Dec.{ltb}
+use mir.Val.{bool_byte}
 use Rattle.format.specs.declared.Pixel.{Pixel}
 use Rattle.format.specs.Pixel.{equal}
 use Rattle.format.specs.Picture.{Picture}
@@ -51,29 +54,21 @@ module _ (size : ℕ) (e : Picture) (v : Pixel) where
       go true q = (same_Some i (index_of size e v) (rw q at h), refl)
       go false q = absurd (none-some _ (sym (rw q at h)))
 
--- looking at each entry, i of which are not v
-module _ (size : ℕ) (e : Picture) (v : Pixel) (i : ℕ) (others : (j : ℕ) → j < i → equal (e j) v ≡ false) where
-  pub scan_more : equal (e i) v ≡ false → (j : ℕ) → j < i + 1 → equal (e j) v ≡ false
-  scan_more q j l = go (ℕ_discrete j i)
-    where
-      go : Dec (j ≡ i) → equal (e j) v ≡ false
-      go (yes r) = rw r q
-      go (no n) = others j (omega arith)
+-- looking at each entry: those before the first that is v are not v
+module _ (size : ℕ) (e : Picture) (v : Pixel) where
+  apart : (j : ℕ) → equal (e j) v ≡ false → e j ≡ v → ⊥
+  apart j n q = true≢false (sym (equal_refl v) ∙ ap (λ (u : Pixel). equal u v) (sym q) ∙ n)
 
-  -- v is not among them
-  apart : (j : ℕ) → j < i → e j ≡ v → ⊥
-  apart j l q = true≢false (sym (equal_refl v) ∙ ap (λ (u : Pixel). equal u v) (sym q) ∙ others j l)
-
-  pub scan_found : i < size → equal (e i) v ≡ true → Some i ≡ found size e v
-  scan_found l q =
+  pub scanned : (r : Option ℕ) → MatchOption r ((j : ℕ) → 0 ≤ j → j < size → equal (e j) v ≡ false)
+      (λ i. (0 ≤ i) × (i < size) × (equal (e i) v ≡ true) × ((j : ℕ) → 0 ≤ j → j < i → equal (e j) v ≡ false)) → r ≡ found size e v
+  scanned None others =
+      found_none size e v (le-ltb (index_of size e v) size (omega (arith, index_none size e v (λ j l q. apart j (others j (omega arith) l) q))))
+  scanned (Some i) (_, l, q, others) =
       found_at size e v i (index_is size e v i l (equal_true (e i) v q) (λ j m p. least j p (dec_lt j i))) l
     where
       least : (j : ℕ) → e j ≡ v → Dec (j < i) → i ≤ j
-      least j p (yes m) = absurd (apart j m p)
+      least j p (yes m) = absurd (apart j (others j (omega arith) m) p)
       least j p (no m) = omega arith
-
-  pub scan_none : size ≤ i → None ≡ found size e v
-  scan_none l = found_none size e v (le-ltb (index_of size e v) size (omega (arith, index_none size e v (λ j m p. apart j (omega arith) p))))
 
 -- comparing with each entry: whether one of the first j is v, and how many come before it
 
@@ -107,36 +102,18 @@ module _ (e : Picture) (v : Pixel) (size : ℕ) (has : index_of size e v < size)
 pub none_before : (i : ℕ) → false ≡ ltb i 0
 none_before i = sym (le-ltb i 0 (omega arith))
 
--- how many of j entries come before index i
-
-pub before_none : (i : ℕ) → 0 ≡ (if ltb i 0 then i else 0)
-before_none i = rw (le-ltb i 0 (omega arith))
-
-pub before_more : (i j r t : ℕ) (found : Bool) → r ≡ (if ltb i j then i else j) → found ≡ ltb i (j + 1) → t ≡ (if found then 0 else 1) → (r + t ≡ (if ltb i (j + 1) then i else j + 1)) × (r + t ≤ j + 1)
-before_more i j r t found h q s = go (dec_lt i j) (dec_lt i (j + 1))
+-- how many of j + 1 entries come before index i
+pub before_more : (i j r t : ℕ) (found : Bool) → r ≡ min i j → found ≡ ltb i (j + 1) → t ≡ bool_byte (not found) → r + t ≡ min i (j + 1)
+before_more i j r t found h q s = go (dec_lt i (j + 1))
   where
-    go : Dec (i < j) → Dec (i < j + 1) → (r + t ≡ (if ltb i (j + 1) then i else j + 1)) × (r + t ≤ j + 1)
-    go (yes a) (yes b) = let x = rw (lt-ltb i j a) at h in let y = rw (q, lt-ltb i (j + 1) b) at s in (rw (lt-ltb i (j + 1) b) (omega arith), omega arith)
-    go (yes a) (no b) = absurd (omega arith)
-    go (no a) (yes b) = let k : j ≤ i = omega arith in let x = rw (le-ltb i j k) at h in let y = rw (q, lt-ltb i (j + 1) b) at s in (rw (lt-ltb i (j + 1) b) (omega arith), omega arith)
-    go (no a) (no b) =
-        let k : j ≤ i = omega arith in
-        let m : j + 1 ≤ i = omega arith in
-        let x = rw (le-ltb i j k) at h in
-        let y = rw (q, le-ltb i (j + 1) m) at s in
-        (rw (le-ltb i (j + 1) m) (omega arith), omega arith)
-
-pub before_all : (i j r : ℕ) → r ≡ (if ltb i j then i else j) → i ≤ j → r ≡ i
-before_all i j r h l = go (dec_lt i j)
-  where
-    go : Dec (i < j) → r ≡ i
-    go (yes a) = rw (lt-ltb i j a) at h
-    go (no a) = let k : j ≤ i = omega arith in let x = rw (le-ltb i j k) at h in omega arith
+    go : Dec (i < j + 1) → r + t ≡ min i (j + 1)
+    go (yes l) = let z : t ≡ 0 = s ∙ rw (q, lt-ltb i (j + 1) l) refl in omega arith
+    go (no l) = let z : t ≡ 1 = s ∙ rw (q, le-ltb i (j + 1) (omega arith)) refl in omega arith
 
 -- pixels that have entries
 
 -- the n pixels of f from i on have entries
-abbrev pub EachHas : ℕ → Picture → Picture → ℕ → ℕ → Type 0
+abbrev EachHas : ℕ → Picture → Picture → ℕ → ℕ → Type 0
 EachHas size e f i n = (k : ℕ) → k < n → has_entry size e (f (i + k)) ≡ true
 
 module _ (size : ℕ) (e : Picture) where
@@ -178,13 +155,18 @@ each_both u v f i s t h d r k l = go (dec_lt k 8)
     go (yes m) = h (and_left s t r) k m
     go (no m) = let e : i + 8 + (k - 8) ≡ i + k = omega arith in rw e at (d (and_right s t r) (k - 8) (omega arith))
 
--- m pixels more that are u or v
-pub each_next : (u v : Pixel) (f : Picture) (a i m : ℕ) → a ≤ i → EachOf u v f a (i - a) → EachOf u v f i m → EachOf u v f a (i + m - a)
-each_next u v f a i m s h d k l = go (dec_lt (a + k) i)
-  where
-    go : Dec (a + k < i) → one_of u v (f (a + k)) ≡ true
-    go (yes b) = h k (omega arith)
-    go (no b) = let e : i + (a + k - i) ≡ a + k = omega arith in rw e at (d (a + k - i) (omega arith))
+-- groups of sixteen that are u or v each
+pub each_groups : (u v : Pixel) (f : Picture) (from a b : ℕ) → from ≡ 16 * a → ((g : ℕ) → a ≤ g → g < b → EachOf u v f (16 * g) 16) → EachOf u v f from (16 * b - from)
+each_groups u v f from a b e h k l =
+    let x = from + k in
+    let q : 16 * (x / 16) + x % 16 ≡ x = omega arith in
+    rw q at (h (x / 16) (omega arith) (omega arith) (x % 16) (omega arith))
+
+-- where the numbers before the first that is found, or all, have P
+pub before_first : (P : ℕ → Type 0) (a b : ℕ) (r : Option ℕ) → a ≤ b → MatchOption r ((k : ℕ) → a ≤ k → k < b → P k) (λ i. (a ≤ i) × (i < b) × ⊤ × ((k : ℕ) → a ≤ k → k < i → P k))
+    → (a ≤ unwrap_or r b) × (unwrap_or r b ≤ b) × ((k : ℕ) → a ≤ k → k < unwrap_or r b → P k)
+before_first P a b None l h = (l, omega arith, h)
+before_first P a b (Some i) l h = (h.0, omega arith, h.3)
 
 -- pixels that are v or v
 pub each_same : (v : Pixel) (f : Picture) (i n : ℕ) → EachOf v v f i n → (q : ℕ) → i ≤ q → q < i + n → f q ≡ v
@@ -203,17 +185,29 @@ all_more v f a g h d q l u = go (dec_lt q (16 * g))
 -- acceptance
 
 module _ (size : ℕ) (e f : Picture) where
-  pub accepted_more : (i : ℕ) (u : Pixel) → have_entries size e i f ≡ true → u ≡ f i → has_entry size e u ≡ true → have_entries size e (i + 1) f ≡ true
+  accepted_more : (i : ℕ) (u : Pixel) → have_entries size e i f ≡ true → u ≡ f i → has_entry size e u ≡ true → have_entries size e (i + 1) f ≡ true
   accepted_more i u h p t =
       let s : suc i ≡ i + 1 = omega arith in
       ap (λ (n : ℕ). have_entries size e n f) (sym s) ∙ and_both (has_entry size e (f i)) (have_entries size e i f) (rw p at t) h
 
-  pub accepted_not : (m i : ℕ) (u : Pixel) → u ≡ f i → has_entry size e u ≡ false → i < m → false ≡ have_entries size e m f
+  accepted_not : (m i : ℕ) (u : Pixel) → u ≡ f i → has_entry size e u ≡ false → i < m → false ≡ have_entries size e m f
   accepted_not m i u p h l = go (have_entries size e m f) refl
     where
       go : (b : Bool) → have_entries size e m f ≡ b → false ≡ b
       go false r = refl
       go true r = sym (rw p at h) ∙ every_at m (λ j. has_entry size e (f j)) i l r
+
+  -- looking at n pixels more
+  pub accepted_all : (n i : ℕ) → have_entries size e i f ≡ true → list_all (λ j. has_entry size e (f j)) (range_with_len i n) ≡ have_entries size e (i + n) f
+  accepted_all zero i h = rw (add-zero i) (sym h)
+  accepted_all (suc n) i h = go (has_entry size e (f i)) refl (accepted_all n (i + 1))
+    where
+      Left : Bool
+      Left = list_all (λ j. has_entry size e (f j)) (range_with_len (i + 1) n)
+
+      go : (b : Bool) → has_entry size e (f i) ≡ b → (have_entries size e (i + 1) f ≡ true → Left ≡ have_entries size e (i + 1 + n) f) → (b && Left) ≡ have_entries size e (i + suc n) f
+      go true q ih = let s : i + 1 + n ≡ i + suc n = omega arith in rw s at (ih (accepted_more i (f i) h refl q))
+      go false q ih = accepted_not (i + suc n) i (f i) refl q (omega arith)
 
   -- n pixels more that have entries
   pub accepted_has : (i n : ℕ) → EachHas size e f i n → have_entries size e i f ≡ true → have_entries size e (i + n) f ≡ true
@@ -244,24 +238,8 @@ module _ (size : ℕ) (e f : Picture) where
   pub accepted_done : (i m : ℕ) → have_entries size e i f ≡ true → i ≡ m → true ≡ have_entries size e m f
   accepted_done i m h q = sym (ap (λ (n : ℕ). have_entries size e n f) (sym q) ∙ h)
 
-  pub accepted_below : (m i : ℕ) → have_entries size e m f ≡ true → i < m → index_of size e (f i) < size
-  accepted_below m i h l = ltb-true (index_of size e (f i)) size (every_at m (λ j. has_entry size e (f j)) i l h)
-
-  pub column_below : (m i : ℕ) (u : Pixel) → have_entries size e m f ≡ true → u ≡ f i → i < m → index_of size e u < size
-  column_below m i u h p l = rw p (accepted_below m i h l)
-
-  pub taken_below : (m x k : ℕ) (u : Pixel) → have_entries size e m f ≡ true → u ≡ f x → k ≡ index_of size e u → x < m → k < size
-  taken_below m x k u h p q l = rw (q, p) (accepted_below m x h l)
-
-  pub taken_entry : (m x : ℕ) (u : Pixel) → have_entries size e m f ≡ true → u ≡ f x → x < m → has_entry size e u ≡ true
-  taken_entry m x u h p l = rw p (every_at m (λ j. has_entry size e (f j)) x l h)
-
-  -- the index at a column, and past the row's last one
+  -- the index at a column
   pub at_column : (w x r : ℕ) (u : Pixel) → r ≡ index_of size e u → u ≡ f x → x < w → r ≡ index_at w size e f 0 x
   at_column w x r u q p l =
       let z : 0 * w + x ≡ x = omega arith in
       q ∙ ap (index_of size e) p ∙ sym (index_inside w size e f 0 x l ∙ ap (λ (y : ℕ). index_of size e (f y)) z)
-
-  pub at_last : (w x r : ℕ) → r ≡ index_at w size e f 0 (w - 1) → w ≤ x → 1 ≤ w → r ≡ index_at w size e f 0 x
-  at_last w x r q l pos =
-      q ∙ index_inside w size e f 0 (w - 1) (omega arith) ∙ sym (index_last w size e f 0 x l)

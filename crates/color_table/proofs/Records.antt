@@ -1,4 +1,5 @@
 -- Records of a row: one by one, and in groups of sixteen pixels.
+use mathlib.Core.Bool.{true}
 use mathlib.Core.List.{List}
 use mathlib.Core.Path.{◌≡◌, refl, sym, ap, ◌∙◌}
 use Prim.Native.Nat.{ℕ, suc, ◌+◌, ◌-◌, ◌*◌, ◌/◌, ◌<◌, ◌≤◌}
@@ -7,8 +8,10 @@ use native.Mathlib.Omega.{arith}
 use Rattle.format.specs.declared.Pixel.{Pixel}
 use Rattle.format.specs.Pixel.{pixel}
 use Rattle.format.specs.Picture.{Picture, pixels, ceiling}
-use Rattle.format.specs.ColorTable.{per_pixel, range, packed_width, index_of, index_at, column_at, digits, packed}
-use Rattle.format.proofs.ColorTable.{per_pixel_pos, digits_same, first_inside, column_inside}
+use Rattle.format.specs.ColorTable.{per_pixel, range, packed_width, index_of, has_entry, index_at, digits, packed}
+use borrow.Author.Tests.{ltb-true}
+use Rattle.format.proofs.Choice.{every_at}
+use Rattle.format.proofs.ColorTable.{per_pixel_pos, digits_same, first_inside}
 use Rattle.pixel.specs.Cells.{pixel_cells, Cells, Rule, run, given}
 use Rattle.pixel.proofs.Cells.{run_none, run_next}
 use Rattle.pixel.proofs.Rows.{run_then}
@@ -16,7 +19,7 @@ use Rattle.color_table.specs.declared.each.Packing.{Packing}
 use Rattle.color_table.specs.Packed.{table_of, record_count, index_in_row, record_of}
 use Rattle.color_table.specs.Pack.{uniform, plain}
 use Rattle.color_table.proofs.Digits.{base_in}
-use Rattle.color_table.proofs.Index.{at_column, accepted_below}
+use Rattle.color_table.proofs.Index.{at_column}
 
 -- record j of a row, by its indices
 pub record_row : (w size : ℕ) (e f : Picture) (n j : ℕ) (v : Pixel) → v ≡ pixel 0 (digits (range n) n (λ k. index_at w size e f 0 (j * n + k))) 0 255 → n ≡ per_pixel size → j < packed_width size w
@@ -32,16 +35,23 @@ record_first w size n j q l = rw q (first_inside w (per_pixel size) j (per_pixel
 pub record_inside : (w n j : ℕ) → (j + 1) * n ≤ w → (k : ℕ) → k < n → j * n + k < w
 record_inside w n j l k m = let s = add-mul j 1 n in let o = one-mul n in omega arith
 
+-- a pixel of the row p has an entry, and its index is that of its column
+module _ {n : ℕ} (p : Packing n) (x : ℕ) (v : Pixel) (at : v ≡ pixels p.row.now x) (inside : x < p.width) where
+  pub entry_there : has_entry p.lookup.now.size (table_of p) v ≡ true
+  entry_there =
+      rw at (every_at p.width (λ j. has_entry p.lookup.now.size (table_of p) (pixels p.row.now j)) x inside p.packs.taken)
+
+  pub index_there : index_of p.lookup.now.size (table_of p) v < p.lookup.now.size
+  index_there = ltb-true (index_of p.lookup.now.size (table_of p) v) p.lookup.now.size entry_there
+
+  pub index_is : (r : ℕ) → r ≡ index_of p.lookup.now.size (table_of p) v → (r ≡ index_in_row p x) × (r < range n)
+  index_is r q =
+      let f = (base_in p).fits in
+      let l = index_there in
+      (at_column p.lookup.now.size (table_of p) (pixels p.row.now) p.width x r v q at inside, omega arith)
+
 -- the records of the row p
 module _ {n : ℕ} (p : Packing n) where
-  pub index_below : (x r : ℕ) → r ≡ index_in_row p x → r < range n
-  index_below x r q =
-      let w = p.packs.wide in
-      let b = base_in p in
-      let l = (accepted_below p.lookup.now.size (table_of p) (pixels p.row.now) p.width (0 * p.width + column_at p.width x) p.packs.taken (omega (arith, column_inside p.width x w))) in
-      let f = b.fits in
-      omega (arith, q)
-
   pub record_is : (j : ℕ) (v : Pixel) → v ≡ pixel 0 (digits (range n) n (λ k. index_in_row p (j * n + k))) 0 255 → j < record_count p → v ≡ record_of p j
   record_is j v q l = record_row p.width p.lookup.now.size (table_of p) (pixels p.row.now) n j v q p.packs.places l
 
@@ -127,7 +137,7 @@ module _ (h : Rule Pixel) (m : ℕ) where
   pub groups_none : (g : ℕ) (xs : List ℕ) → xs ≡ run pixel_cells h (g * m) (g * m - g * m) xs
   groups_none g xs = run_none pixel_cells h (g * m) xs
 
-  pub groups_next : (a b c : ℕ) (xs ys zs : List ℕ) → ys ≡ run pixel_cells h (a * m) (b * m - a * m) xs → zs ≡ run pixel_cells h (b * m) (c * m - b * m) ys → a ≤ b → b ≤ c
+  groups_next : (a b c : ℕ) (xs ys zs : List ℕ) → ys ≡ run pixel_cells h (a * m) (b * m - a * m) xs → zs ≡ run pixel_cells h (b * m) (c * m - b * m) ys → a ≤ b → b ≤ c
       → zs ≡ run pixel_cells h (a * m) (c * m - a * m) xs
   groups_next a b c xs ys zs p q l u = run_next pixel_cells h (a * m) (b * m) (c * m) xs ys zs (mul-le-mul_right m l) (mul-le-mul_right m u) p q
 

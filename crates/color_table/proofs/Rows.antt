@@ -39,9 +39,9 @@ column_looked n e g first y i p c v one h b q m =
     rw (m, one) (column_is 1 e g first y p p c v (rw one at h) q (rw d b.0) a b.1 (omega arith))
 
 -- column a of the eight of packed pixel k
-pub column_of_eight : (n : ℕ) (e g : Picture) (first k a b i j : ℕ) (c : List ℕ) → n ≡ 8 → ColumnsOf n e c → b ≡ (g k).green → b < 256 → a < 8 → j ≡ b * 8 + a → i ≡ first + (k * 8 + a) → pixels c j ≡ row_of n e g first i
-column_of_eight n e g first k a b i j c q h t l m u y =
-    rw (q, u, y) (column_is 8 e g first (k * 8 + a) b (b * 8 + a) c (pixels c (b * 8 + a)) (rw q at h) refl (rw (digits_div k m) t) (rw (digits_mod k m) refl) l (omega arith))
+pub column_of_eight : (e g : Picture) (first k a b i j : ℕ) (c : List ℕ) → ColumnsOf 8 e c → b ≡ (g k).green → b < 256 → a < 8 → j ≡ b * 8 + a → i ≡ first + (k * 8 + a) → pixels c j ≡ row_of 8 e g first i
+column_of_eight e g first k a b i j c h t l m u y =
+    rw (u, y) (column_is 8 e g first (k * 8 + a) b (b * 8 + a) c (pixels c (b * 8 + a)) h refl (rw (digits_div k m) t) (rw (digits_mod k m) refl) l (omega arith))
 
 -- a row's columns over two buffers that agree on its packed pixels
 pub row_same : (n : ℕ) (e g h : Picture) (first i : ℕ) → g ((i - first) / n) ≡ h ((i - first) / n) → row_of n e g first i ≡ row_of n e h first i
@@ -84,6 +84,10 @@ packed_fewer w n some pos =
 
 pub rows_fewer : (w size y : ℕ) → 1 ≤ w → y * packed_width size w ≤ y * w
 rows_fewer w size y some = mul-le-mul_left y (packed_fewer w (per_pixel size) some (per_pixel_pos size))
+
+-- the same of c packed columns
+pub rows_before : (y c w size : ℕ) → c ≡ packed_width size w → 1 ≤ w → y * c ≤ y * w
+rows_before y c w size p some = rw p (rows_fewer w size y some)
 
 module _ (w size y : ℕ) (e : Picture) (xs : List ℕ) (some : 1 ≤ w) (fits : 4 * (y * w + w) ≤ length xs) where
   abbrev n : ℕ

@@ -1,4 +1,5 @@
 -- What the contracts of `color_table` cite beside the definitions of `format`.
+pub mod Places
 pub mod Table
 pub mod Unpack
 pub mod Hints

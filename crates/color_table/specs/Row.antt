@@ -10,3 +10,5 @@ pub record Row (size w n : ℕ) (entries row : List ℕ) : Type 0 where
   pub there : 4 * w ≤ length row
   pub taken : have_entries size (pixels entries) w (pixels row) ≡ true
   pub places : n ≡ per_pixel size
+  pub some : 1 ≤ n
+  pub most : n ≤ 8

@@ -9,25 +9,26 @@ use crate::lookup::Lookup;
 use pixel::word::Word;
 
 impl<'a> Lookup<'a> {
+    fn has(&self, w: Word) -> bool
+        ensures { result ≡ has_entry self.now.size (pixels self.now.entries.now) w }
+    {
+        self.find(w).is_some()
+    }
+
     // Whether each of the first `to` pixels has an entry, where those before `from` have.
     fn accept_each(&self, row: &[u8], from: usize, to: usize) -> bool
-        requires from_le_to { (from ≤ to) × (4 * to ≤ length row.now) }
+        requires inside { (from ≤ to) × (4 * to ≤ length row.now) }
         requires before { have_entries self.now.size (pixels self.now.entries.now) from (pixels row.now) ≡ true }
         ensures { result ≡ have_entries self.now.size (pixels self.now.entries.now) to (pixels row.now) }
     {
-        for i in from..to {
-            if self.find(Word::at(row, i)).is_none() {
-                return false;
-            }
-        }
-        true
+        (from..to).all(|i| self.has(Word::at(row, i)))
     }
 
     // Whether each of the first i + 16 pixels has an entry, where those before i have and a has one. Most groups are
     // the pixel before them, a, or that and one color more: one branch for both, so that a change of color is not
     // mispredicted.
     fn accept_group(&self, row: &[u8], i: usize, a: Word) -> bool
-        requires i_in_bounds { 4 * (i + 16) ≤ length row.now }
+        requires inside { 4 * (i + 16) ≤ length row.now }
         requires before { have_entries self.now.size (pixels self.now.entries.now) i (pixels row.now) ≡ true }
         requires has { has_entry self.now.size (pixels self.now.entries.now) a ≡ true }
         ensures { result ≡ have_entries self.now.size (pixels self.now.entries.now) (i + 16) (pixels row.now) }
@@ -48,11 +49,12 @@ impl<'a> Lookup<'a> {
     {
         let mut a = Word::at(self.entries, 0);
         let from = pass(row, 0, count, a, Word::at(self.entries, self.size - 1));
-        for i in (from..count).step_by(16) {
-            if !self.accept_group(row, i, a) {
+        // A `for`, since it carries a: no law of `all` goes through a closure that changes what it holds.
+        for g in from / 16..count / 16 {
+            if !self.accept_group(row, 16 * g, a) {
                 return false;
             }
-            a = Word::at(row, i + 15);
+            a = Word::at(row, 16 * g + 15);
         }
         true
     }

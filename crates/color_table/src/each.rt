@@ -11,11 +11,11 @@ use pixel::word::Word;
 
 // A row of `width` pixels that have entries, N of whose indices go into a record.
 #[derive(Drop)]
-pub struct Packing<'a, const N: usize> {
-    pub lookup: &'a Lookup<'a>,
-    pub row: &'a [u8],
-    pub width: usize,
-    pub ghost packs: { Row lookup.now.size width N lookup.now.entries.now row.now },
+pub(crate) struct Packing<'a, const N: usize> {
+    pub(crate) lookup: &'a Lookup<'a>,
+    pub(crate) row: &'a [u8],
+    pub(crate) width: usize,
+    pub(crate) ghost packs: { Row lookup.now.size width N lookup.now.entries.now row.now },
 }
 
 impl<'a, const N: usize> Packing<'a, N> {
@@ -23,7 +23,7 @@ impl<'a, const N: usize> Packing<'a, N> {
 
     // The record of N indices, lowest first.
     #[inline(always)]
-    pub fn record<F: Fn(usize) -> u32>(&self, index: F) -> Word
+    pub(crate) fn record<F: Fn(usize) -> u32>(&self, index: F) -> Word
         requires asked { (k : ℕ) → k < N → F.pre index k }
         requires small { (k r : ℕ) → k < N → F.post index k r → r < range N }
         ensures { (g : ℕ → ℕ) → ((k r : ℕ) → k < N → F.post index k r → r ≡ g k)
@@ -87,7 +87,7 @@ impl<'a, const N: usize> Packing<'a, N> {
     }
 
     // Records `from` up to `to`.
-    pub fn put_each(&self, out: &mut [u8], from: usize, to: usize)
+    pub(crate) fn put_each(&self, out: &mut [u8], from: usize, to: usize)
         requires { (from ≤ to) × (to ≤ record_count self.now) × (4 * to ≤ length out.old) }
         ensures { RecordsOf self.now from (to - from) out.old out.new }
     {
@@ -102,8 +102,8 @@ impl<'a, const N: usize> Packing<'a, N> {
         );
     }
 
-    // The same of records that are inside the row.
-    pub fn put_inside(&self, out: &mut [u8], from: usize, to: usize)
+    // The same of records that are inside the row: none of their indices is tested for the row's end.
+    pub(crate) fn put_inside(&self, out: &mut [u8], from: usize, to: usize)
         requires { (from ≤ to) × (to * N ≤ self.now.width) × (4 * to ≤ length out.old) }
         ensures { RecordsOf self.now from (to - from) out.old out.new }
     {

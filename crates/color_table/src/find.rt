@@ -4,6 +4,7 @@ ghost use Rattle.format.specs.Picture.{pixels};
 ghost use Rattle.color_table.specs.Found.{found};
 ghost use Rattle.color_table.specs.Hints.{slot_of, Linked, Hints};
 
+use pixel::entries::Entries;
 use pixel::word::Word;
 
 // The lowest index whose entry equals w, by looking at each.
@@ -11,12 +12,7 @@ pub fn scan(entries: &[u8], size: usize, w: Word) -> Option<usize>
     requires { 4 * size ≤ length entries.now }
     ensures { result ≡ found size (pixels entries.now) w }
 {
-    for i in 0..size {
-        if Word::at(entries, i) == w {
-            return Some(i);
-        }
-    }
-    None
+    (0..size).find(|i| Word::at(entries, *i) == w)
 }
 
 // Where w is looked for.
@@ -26,22 +22,23 @@ pub(crate) fn slot(w: Word) -> usize
     (w.number() as usize) * 2654435761 / 1048576 % 4096
 }
 
-fn no_hints(entries: &[u8], size: usize) -> [u8; 4352]
-    requires { 1 ≤ size }
-    ensures { Linked size size (pixels entries.now) result }
+fn no_hints(entries: &Entries) -> [u8; 4352]
+    requires { 1 ≤ entries.now.size }
+    ensures { Linked entries.now.size entries.now.size (pixels entries.now.bytes.now) result }
 {
     [0u8; 4352]
 }
 
 // Where entries are looked up: made once a picture. From the last entry down, so that a slot holds its lowest index,
 // and no link leads to entry 0: a link of 0 is none.
-pub(crate) fn hints_of(entries: &[u8], size: usize) -> [u8; 4352]
-    requires { (1 ≤ size) × (size ≤ 256) × (4 * size ≤ length entries.now) }
-    ensures { Hints size (pixels entries.now) result }
+pub(crate) fn hints_of(entries: &Entries) -> [u8; 4352]
+    requires { 1 ≤ entries.now.size }
+    ensures { Hints entries.now.size (pixels entries.now.bytes.now) result }
 {
-    let mut hints = no_hints(entries, size);
-    for i in (0..size).rev() {
-        let s = slot(Word::at(entries, i));
+    let mut hints = no_hints(entries);
+    // By the index, which is what is written, in two places.
+    for i in (0..entries.size).rev() {
+        let s = slot(Word::at(entries.bytes, i));
         hints[4096 + i] = hints[s];
         hints[s] = i as u8;
     }

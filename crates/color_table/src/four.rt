@@ -7,7 +7,7 @@ ghost use Rattle.color_table.specs.Four.{FourOf};
 use pixel::cell::Cell;
 
 // Cells j to j + 3. The four are parameters: a closure that made them would not be inlined four times.
-pub fn put_four<C: Cell>(xs: &mut [u8], j: usize, a: C, b: C, c: C, d: C)
+pub(crate) fn put_four<C: Cell>(xs: &mut [u8], j: usize, a: C, b: C, c: C, d: C)
     requires inside { C.cells.size * (j + 4) ≤ length xs.old }
     requires fits { j + 3 < 2 ^ 64 }
     ensures { (f : ℕ → C.Value) → FourOf f j (C.value a) (C.value b) (C.value c) (C.value d)

@@ -20,7 +20,7 @@ fn eight_of(row: &[u8], i: usize, a: Word, b: Word) -> bool
 
 // The same of a group. It is two halves, since a function of sixteen pixels is not inlined.
 #[inline(always)]
-pub fn group_of(row: &[u8], i: usize, a: Word, b: Word) -> bool
+pub(crate) fn group_of(row: &[u8], i: usize, a: Word, b: Word) -> bool
     requires { 4 * (i + 16) ≤ length row.now }
     ensures { result ≡ true → EachOf a b (pixels row.now) i 16 }
 {
@@ -33,10 +33,6 @@ pub fn pass(row: &[u8], from: usize, to: usize, a: Word, b: Word) -> usize
     ensures { (result % 16 ≡ 0) × (from ≤ result) × (result ≤ to)
         × EachOf a b (pixels row.now) from (result - from) }
 {
-    for i in (from..to).step_by(16) {
-        if !group_of(row, i, a, b) {
-            return i;
-        }
-    }
-    to
+    let other = (from / 16..to / 16).find(|g| !group_of(row, 16 * *g, a, b));
+    16 * other.unwrap_or(to / 16)
 }

@@ -6,6 +6,7 @@ ghost use Rattle.color_table.specs.Hints.{Table};
 ghost use Rattle.color_table.specs.Found.{found};
 
 use crate::find::{hints_of, slot};
+use pixel::entries::Entries;
 use pixel::word::Word;
 
 #[derive(Drop)]
@@ -17,15 +18,14 @@ pub struct Lookup<'a> {
 }
 
 impl<'a> Lookup<'a> {
-    pub fn new(entries: &'a [u8], size: usize) -> Self
-        requires { (1 ≤ size) × (size ≤ 256) × (4 * size ≤ length entries.now) }
-        ensures { (result.entries.now ≡ entries.now) × (result.size ≡ size) }
+    pub fn new(entries: &Entries<'a>) -> Self
+        requires { 1 ≤ entries.now.size }
+        ensures { (result.entries.now ≡ entries.now.bytes.now) × (result.size ≡ entries.now.size) }
     {
-        let hints = hints_of(entries, size);
         Lookup {
-            entries,
-            size,
-            hints,
+            entries: entries.bytes,
+            size: entries.size,
+            hints: hints_of(entries),
         }
     }
 
@@ -35,6 +35,7 @@ impl<'a> Lookup<'a> {
         ensures { result ≡ found self.now.size (pixels self.now.entries.now) w }
     {
         let mut i = self.hints[slot(w)] as usize;
+        // A turn follows a link.
         while Word::at(self.entries, i) != w {
             i = self.hints[4096 + i] as usize;
             if i == 0 {
@@ -46,7 +47,7 @@ impl<'a> Lookup<'a> {
 
     // The same of a pixel that has an entry.
     #[inline(always)]
-    pub fn index(&self, w: Word) -> usize
+    pub(crate) fn index(&self, w: Word) -> usize
         requires { has_entry self.now.size (pixels self.now.entries.now) w ≡ true }
         ensures { result ≡ index_of self.now.size (pixels self.now.entries.now) w }
     {

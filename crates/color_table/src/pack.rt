@@ -5,6 +5,7 @@ ghost use Rattle.format.specs.ColorTable.{packed_width, have_entries, packed as 
 ghost use Rattle.color_table.specs.Packed.{table_of, record_count, RecordsOf};
 
 use crate::each::Packing;
+use crate::flat::Flat;
 use crate::lookup::Lookup;
 use pixel::stride::{Expanded, per_pixel};
 
@@ -16,7 +17,7 @@ impl<'a, const N: usize> Packing<'a, N> {
             × RecordsOf self.now 0 result out.old out.new }
     {
         if N == 8 {
-            self.put_fours(out)
+            Flat { packing: self }.put_fours(out)
         } else {
             self.put_runs(out)
         }
@@ -38,9 +39,9 @@ impl<'a> Lookup<'a> {
     // A row of pixels that have entries, packed at the front of `out`: in each arm N is a constant, for which the loops
     // are compiled.
     pub fn pack_row(&self, row: &[u8], expanded: Expanded, out: &mut [u8])
-        requires in_bounds { (1 ≤ expanded.0) × (expanded.0 ≤ 16384) × (4 * expanded.0 ≤ length row.now)
+        requires fits { (1 ≤ expanded.0) × (expanded.0 ≤ 16384) × (4 * expanded.0 ≤ length row.now)
             × (4 * packed_width self.now.size expanded.0 ≤ length out.old) }
-        requires have_entries { have_entries self.now.size (pixels self.now.entries.now) expanded.0 (pixels row.now)
+        requires taken { have_entries self.now.size (pixels self.now.entries.now) expanded.0 (pixels row.now)
             ≡ true }
         ensures { out.new ≡ written (packed_width self.now.size expanded.0)
             (packed_of expanded.0 self.now.size (pixels self.now.entries.now) (pixels row.now)) out.old }

@@ -6,6 +6,7 @@ ghost use Rattle.color_table.specs.Packed.{record_count, RecordsOf, GroupsOf};
 ghost use Rattle.color_table.specs.Pack.{LastOf, Filled};
 
 use crate::each::Packing;
+use crate::flat::Flat;
 use crate::groups::group_of;
 use pixel::replace::replace;
 use pixel::word::Word;
@@ -47,6 +48,7 @@ impl<'a, const N: usize> Packing<'a, N> {
     {
         let m = 16 / N;
         let packed = last.packed;
+        // A loop: by `pass` and one `replace` storing takes longer.
         for g in last.groups..groups {
             if !group_of(self.row, 16 * g, last.word, last.word) {
                 return g;
@@ -70,7 +72,7 @@ impl<'a, const N: usize> Packing<'a, N> {
     {
         let m = 16 / N;
         if N == 4 {
-            self.put_four(out, g * m);
+            Flat { packing: self }.put_four(out, g * m);
         } else {
             self.put_inside(out, g * m, g * m + m);
         }
@@ -78,9 +80,9 @@ impl<'a, const N: usize> Packing<'a, N> {
 
     // The groups that are the last pixel again, and the one after them.
     fn pack_run(&self, out: &mut [u8], groups: usize, last: Last) -> Last
-        requires groups_lt_groups { (last.groups < groups) × (16 * groups ≤ self.now.width)
+        requires inside { (last.groups < groups) × (16 * groups ≤ self.now.width)
             × (4 * (groups * (16 / N)) ≤ length out.old) }
-        requires last_of { LastOf self.now last }
+        requires last { LastOf self.now last }
         ensures { (last.groups < result.groups) × (result.groups ≤ groups)
             × LastOf self.now result
             × GroupsOf self.now last.groups result.groups out.old out.new }
@@ -94,13 +96,14 @@ impl<'a, const N: usize> Packing<'a, N> {
     }
 
     // The row's groups, and how many records they are.
-    pub fn put_runs(&self, out: &mut [u8]) -> usize
+    pub(crate) fn put_runs(&self, out: &mut [u8]) -> usize
         requires { 4 * record_count self.now ≤ length out.old }
         ensures { (result ≤ record_count self.now)
             × RecordsOf self.now 0 result out.old out.new }
     {
         let groups = self.width / 16;
         let mut last = self.last_of(0, 0);
+        // A turn goes to the end of a run.
         while last.groups < groups {
             last = self.pack_run(out, groups, last);
         }

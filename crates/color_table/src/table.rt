@@ -1,10 +1,12 @@
 // The color table, padded so that every byte is an index, and the columns of every byte that are made of it.
-ghost use Rattle.std.specs.Prelude.{◌≡◌, ◌*◌, ◌/◌, ◌%◌, ◌^◌, ◌<◌, ◌≤◌, length};
+ghost use Rattle.std.specs.Prelude.{◌≡◌, ◌*◌, ◌/◌, ◌%◌, ◌^◌, ◌<◌, ◌≤◌};
 ghost use Rattle.format.specs.Picture.{pixels, Picture};
 ghost use Rattle.format.specs.ColorTable.{per_pixel, range, index_in, entry};
 ghost use Rattle.pixel.specs.Stride.{Places};
-ghost use Rattle.color_table.specs.Table.{entry_in, TableOf, ColumnsOf};
+ghost use Rattle.color_table.specs.Places.{places-prop};
+ghost use Rattle.color_table.specs.Table.{column_in, TableOf, ColumnsOf};
 
+use pixel::entries::Entries;
 use pixel::replace::replace;
 use pixel::stride::per_pixel;
 use pixel::word::Word;
@@ -18,55 +20,68 @@ pub fn index_range(size: usize) -> usize
     1 << (8 / per_pixel(size))
 }
 
-// The entries, and (0, 0, 0, 0) from `size` on.
-fn padded(entries: &[u8], size: usize) -> [[u8; 4]; 256]
-    requires { (size ≤ 256) × (4 * size ≤ length entries.now) }
-    ensures { TableOf (entry size (pixels entries.now)) result }
-{
-    let mut table = [[0u8; 4]; 256];
-    for i in 0..size {
-        table[i] = <[u8; 4]>::from(Word::at(entries, i));
+// The entries of a color table, padded so that every byte is an index, and how many indices a byte holds.
+#[derive(Drop)]
+struct Padded {
+    entries: [[u8; 4]; 256],
+    per_byte: usize,
+    ghost places: { Places per_byte } by { places-prop per_byte },
+}
+
+impl Padded {
+    // The entries, and (0, 0, 0, 0) after them.
+    fn new(entries: &Entries) -> Self
+        ensures { (result.per_byte ≡ per_pixel entries.now.size)
+            × TableOf (entry entries.now.size (pixels entries.now.bytes.now)) result.entries }
+    {
+        let mut padded = [[0u8; 4]; 256];
+        // By the index of both arrays.
+        for i in 0..entries.size {
+            padded[i] = <[u8; 4]>::from(Word::at(entries.bytes, i));
+        }
+        Padded {
+            entries: padded,
+            per_byte: per_pixel(entries.size),
+        }
     }
-    table
-}
 
-// Index k of the byte b, which holds n indices.
-fn index_in(b: u8, k: usize, n: usize) -> u8
-    requires { Places n × (k < n) }
-    ensures { result ≡ index_in n b k }
-{
-    let bits = 8 / n;
-    ((b as usize >> (bits * k)) % (1 << bits)) as u8
-}
+    // Index k of the byte b.
+    fn index_in(&self, b: u8, k: usize) -> u8
+        requires { k < self.now.per_byte }
+        ensures { result ≡ index_in self.now.per_byte b k }
+    {
+        let bits = 8 / self.per_byte;
+        ((b as usize >> (bits * k)) % (1 << bits)) as u8
+    }
 
-// Pixel i of the columns: the entry of index i % n of the byte i / n.
-fn column(table: &[[u8; 4]; 256], n: usize, i: usize) -> Word
-    requires { Places n × (i < 256 * n) }
-    ensures { result ≡ entry_in table.now (index_in n (i / n) (i % n)) }
-{
-    let index = index_in((i / n) as u8, i % n, n);
-    Word::from(table[index as usize])
-}
+    // Pixel i of the columns: the entry of index i % n of the byte i / n, which holds n.
+    fn column(&self, i: usize) -> Word
+        requires { i < 256 * self.now.per_byte }
+        ensures { result ≡ column_in self.now.per_byte self.now.entries i }
+    {
+        let n = self.per_byte;
+        let index = self.index_in((i / n) as u8, i % n);
+        Word::from(self.entries[index as usize])
+    }
 
-// The pixels of the n indices of every byte, those of byte b from pixel b * n on.
-fn columns_of(table: &[[u8; 4]; 256], n: usize) -> [u8; 8192]
-    requires { Places n }
-    ensures { (e : Picture) → TableOf e table.now → ColumnsOf n e result }
-{
-    let mut columns = [0u8; 8192];
-    replace(
-        &mut columns,
-        0,
-        256 * n,
-        |_: &[u8], i: usize| column(table, n, i),
-    );
-    columns
+    // The pixels of the n indices of every byte, those of byte b from pixel b * n on.
+    fn columns(&self) -> [u8; 8192]
+        ensures { (e : Picture) → TableOf e self.now.entries → ColumnsOf self.now.per_byte e result }
+    {
+        let mut columns = [0u8; 8192];
+        replace(
+            &mut columns,
+            0,
+            256 * self.per_byte,
+            |_: &[u8], i: usize| self.column(i),
+        );
+        columns
+    }
 }
 
 // The columns of a table's entries: made once a picture.
-pub fn columns_of_table(entries: &[u8], size: usize) -> [u8; 8192]
-    requires { (size ≤ 256) × (4 * size ≤ length entries.now) }
-    ensures { ColumnsOf (per_pixel size) (entry size (pixels entries.now)) result }
+pub fn columns_of_table(entries: &Entries) -> [u8; 8192]
+    ensures { ColumnsOf (per_pixel entries.now.size) (entry entries.now.size (pixels entries.now.bytes.now)) result }
 {
-    columns_of(&padded(entries, size), per_pixel(size))
+    Padded::new(entries).columns()
 }

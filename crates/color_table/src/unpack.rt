@@ -2,9 +2,8 @@
 // bottom. A row's columns go from the right, because one may lie where a packed pixel of the same row stands.
 ghost use Rattle.std.specs.Prelude.{◌≡◌, ℕ, ◌+◌, ◌-◌, ◌*◌, ◌<◌, ◌≤◌, length};
 ghost use Rattle.format.specs.Picture.{Picture, pixels};
-ghost use Rattle.format.specs.ColorTable.{packed_width};
+ghost use Rattle.format.specs.ColorTable.{packed_width, per_pixel};
 ghost use Rattle.pixel.specs.Cells.{pixel_cells, run, given};
-ghost use Rattle.pixel.specs.Stride.{Places};
 ghost use Rattle.color_table.specs.Table.{ColumnsOf};
 ghost use Rattle.color_table.specs.Four.{FourOf};
 ghost use Rattle.color_table.specs.Unpack.{row_of, Columns, RowUnpacked};
@@ -114,28 +113,6 @@ impl<'a, const N: usize> Unpacking<'a, N> {
         );
     }
 
-    // The columns of packed pixel k, where it holds eight indices.
-    #[inline(always)]
-    fn put_pixel(&self, part: &mut [u8], first: usize, k: usize)
-        requires { (N ≡ 8) × (4 * (first + 8 * k + 8) ≤ length part.old) }
-        ensures { Columns N self.now.columns.now first (8 * k) 8 part.old part.new }
-    {
-        let j = packed_byte(part, k) * 8;
-        let i = first + 8 * k;
-        self.copy_four(part, i + 4, j + 4);
-        self.copy_four(part, i, j);
-    }
-
-    // The columns of the first `count` packed pixels, where each holds eight.
-    fn put_eights(&self, part: &mut [u8], first: usize, count: usize)
-        requires { (N ≡ 8) × (4 * (first + 8 * count) ≤ length part.old) }
-        ensures { Columns N self.now.columns.now first 0 (8 * count) part.old part.new }
-    {
-        for k in (0..count).rev() {
-            self.put_pixel(part, first, k);
-        }
-    }
-
     // The first 4 * count columns.
     fn put_fours(&self, part: &mut [u8], first: usize, count: usize)
         requires { 4 * (first + 4 * count) ≤ length part.old }
@@ -152,7 +129,10 @@ impl<'a, const N: usize> Unpacking<'a, N> {
         ensures { Columns N self.now.columns.now first 0 (8 * count) part.old part.new }
     {
         if N == 8 {
-            self.put_eights(part, first, count);
+            Unpacking::<8> {
+                columns: self.columns,
+            }
+            .put_eights(part, first, count);
         } else {
             self.put_fours(part, first, 2 * count);
         }
@@ -186,12 +166,37 @@ impl<'a, const N: usize> Unpacking<'a, N> {
     }
 }
 
-// A row of `width` columns, n to a packed pixel: in each arm N is a constant, for which the loops are compiled.
-fn unpack_row(part: &mut [u8], first: usize, width: usize, n: usize, columns: &[u8; 8192])
-    requires { Places n × (4 * (first + width) ≤ length part.old) }
-    ensures { Columns n columns.now first 0 width part.old part.new }
+// A packed pixel of eight indices.
+impl<'a> Unpacking<'a, 8> {
+    // The columns of packed pixel k.
+    #[inline(always)]
+    fn put_pixel(&self, part: &mut [u8], first: usize, k: usize)
+        requires { 4 * (first + 8 * k + 8) ≤ length part.old }
+        ensures { Columns 8 self.now.columns.now first (8 * k) 8 part.old part.new }
+    {
+        let j = packed_byte(part, k) * 8;
+        let i = first + 8 * k;
+        self.copy_four(part, i + 4, j + 4);
+        self.copy_four(part, i, j);
+    }
+
+    // The columns of the first `count` packed pixels.
+    fn put_eights(&self, part: &mut [u8], first: usize, count: usize)
+        requires { 4 * (first + 8 * count) ≤ length part.old }
+        ensures { Columns 8 self.now.columns.now first 0 (8 * count) part.old part.new }
+    {
+        for k in (0..count).rev() {
+            self.put_pixel(part, first, k);
+        }
+    }
+}
+
+// A row of `width` columns: in each arm N is a constant, for which the loops are compiled.
+fn unpack_row(part: &mut [u8], first: usize, width: usize, size: usize, columns: &[u8; 8192])
+    requires { 4 * (first + width) ≤ length part.old }
+    ensures { Columns (per_pixel size) columns.now first 0 width part.old part.new }
 {
-    match n {
+    match per_pixel(size) {
         8 => Unpacking::<8> { columns }.put_row(part, first, width),
         4 => Unpacking::<4> { columns }.put_row(part, first, width),
         2 => Unpacking::<2> { columns }.put_row(part, first, width),
@@ -202,6 +207,7 @@ fn unpack_row(part: &mut [u8], first: usize, width: usize, n: usize, columns: &[
 // Row y of the picture. Its part of the buffer goes from its packed pixels to its last column.
 // Not inlined, so that four pixels of one index are stored at once: with columns that are a local, two are.
 #[inline(never)]
+#[tactic(auto, using(crate::proofs::Rows::rows_before))]
 pub fn unpack_row_at(
     image: &mut [u8],
     y: usize,
@@ -219,5 +225,5 @@ pub fn unpack_row_at(
     let w = expanded.0;
     let a = 4 * (y * c);
     let b = 4 * (y * w + w);
-    unpack_row(&mut image[a..b], y * w - y * c, w, per_pixel(size), columns);
+    unpack_row(&mut image[a..b], y * w - y * c, w, size, columns);
 }

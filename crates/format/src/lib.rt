@@ -15,7 +15,8 @@ pub struct Pixel {
     pub alpha: u8,
 }
 
-// A record of a chain: its fields, and the current width where its turn comes. `zero` is its last four bytes.
+// A record of a chain: its fields, and the current width where its turn comes. `kind` is a number, since one over 3 is
+// read and refused. `zero` is its last four bytes.
 #[derive(Clone, Copy)]
 pub struct Step {
     pub kind: u32,

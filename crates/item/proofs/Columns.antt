@@ -50,6 +50,10 @@ pub repeated_item : (size : ℕ) (e : Picture) (n : ℕ) (m : Option Pixel) (v r
 unfolding repeated_made
 repeated_item size e n m v r i b w a q c z d = rw (a, ← q, c, z, d) refl
 
+-- fewer indices fit as well
+pub fewer_fit : (u n m : ℕ) → 1 ≤ u → n ≤ m → u ^ m ≤ 256 → u ^ n ≤ 256
+fewer_fit u n m p l f = omega (arith, pow-le-pow_right p l)
+
 -- an index that is found is that of an entry
 pub found_inside : (size : ℕ) (e : Picture) (v : Pixel) (i : ℕ) → Some i ≡ found size e v → i < size
 found_inside size e v i q =
@@ -61,12 +65,15 @@ pub again_more : (u i k b : ℕ) → b ≡ digits u k (λ j. i) → i + u * b �
 unfolding digits
 again_more u i k b q = let s : k + 1 ≡ suc k = omega arith in rw (s, q)
 
-pub again_small : (u i k n b : ℕ) → i < u → b < u ^ k → k < n → u ^ n ≤ 256 → (i + u * b < u ^ (k + 1)) × (i + u * b < 256)
-again_small u i k n b l m h t =
+pub again_small : (u i k b : ℕ) → i < u → b < u ^ k → i + u * b < u ^ (k + 1)
+again_small u i k b l m =
     let s : k + 1 ≡ suc k = omega arith in
-    let a : i + u * b < u ^ (k + 1) = rw (s, pow-succ' u k) (small_more (u ^ k) i u b l m) in
+    rw (s, pow-succ' u k) (small_more (u ^ k) i u b l m)
+
+pub again_fits : (u i k n b : ℕ) → i < u → b < u ^ k → k < n → u ^ n ≤ 256 → i + u * b < 256
+again_fits u i k n b l m h t =
     let p : u ^ (k + 1) ≤ u ^ n = pow-le-pow_right (omega arith) (omega arith) in
-    (a, omega arith)
+    omega (arith, again_small u i k b l m)
 
 -- one index more fits a byte
 pub byte_fits : (size u w i g : ℕ) → u * g + u ≤ 256 → w ≡ u → i < size → size ≤ w → i + w * g < 256
@@ -120,9 +127,9 @@ module _ (w size : ℕ) (e f : Picture) (y : ℕ) where
 
   module _ (t : ℕ → Bool) where
     -- no position
-    pub no-columns : (n x : ℕ) (p : Pixel) → n ≡ 0 → p ≡ pixel 0 0 0 255 → Some p ≡ made (some t (columns w y n x)) (record_from w size e f y n x)
+    pub no_columns : (n x : ℕ) (p : Pixel) → n ≡ 0 → p ≡ pixel 0 0 0 255 → Some p ≡ made (some t (columns w y n x)) (record_from w size e f y n x)
     unfolding made record_from columns digits
-    no-columns n x p z q = rw (z, q)
+    no_columns n x p z q = rw (z, q)
 
     module _ (was : ℕ → Bool) (lacking : (q : ℕ) → t q ≡ (was q || not (has_entry size e (f q)))) where
       -- one column more

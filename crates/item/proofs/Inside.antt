@@ -3,7 +3,7 @@ use Rattle.std.specs.Prelude.{if◌then◌else◌}
 use mathlib.Core.Bool.{Bool, true, false}
 use mathlib.Core.Path.{◌≡◌, refl}
 use Prim.Native.Nat.{ℕ, ◌+◌, ◌-◌, ◌*◌, ◌/◌, ◌%◌, ◌<◌, ◌≤◌}
-use native.Mathlib.Nat.{mod-lt, div-lt_iff_lt-mul, mul-le-mul}
+use native.Mathlib.Nat.{mod-lt, div-lt_iff_lt-mul}
 use native.Mathlib.Omega.{arith}
 use lib.Dec.{eqb}
 use borrow.Author.Tests.{eqb-false}
@@ -19,10 +19,6 @@ module _ (w q : ℕ) (pos : 1 ≤ w) where
 
   pub row_inside : (h : ℕ) → q < h * w → q / w < h
   row_inside h l = (div-lt_iff_lt-mul pos).1 l
-
--- the first item of row y is one of 2 ^ 28
-pub row_small : (w y : ℕ) → w ≤ 16384 → y ≤ 16384 → y * w ≤ 268435456
-row_small w y l m = mul-le-mul m l
 
 module _ (w x y h : ℕ) (column : x < w) (row : y < h) where
   here : y * w + w ≤ h * w

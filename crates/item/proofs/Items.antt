@@ -1,6 +1,6 @@
 -- Laws of items that are made or missing.
-use Rattle.std.specs.Prelude.{Option, Some, None, option_map, if◌then◌else◌}
-use mathlib.Core.Bool.{Bool, true, false, not, ◌&&◌, ◌||◌}
+use Rattle.std.specs.Prelude.{Some, None, option_map, if◌then◌else◌}
+use mathlib.Core.Bool.{Bool, true, false, ◌&&◌, ◌||◌}
 use mathlib.Core.Path.{◌≡◌, refl}
 use Prim.Native.Nat.{ℕ}
 use Rattle.format.specs.declared.Pixel.{Pixel}
@@ -33,17 +33,6 @@ pub asked_made : (a b : Bool) (v : Pixel) → asked a (made b v) ≡ made (a && 
 unfolding asked made
 asked_made true b v = refl
 asked_made false b v = refl
-
--- by a test
-pub asked_none : (a b : Bool) (m : Option Pixel) → a ≡ b → not a ≡ true → Some clear ≡ asked b m
-unfolding asked
-asked_none true b m e t = cc
-asked_none false b m e t = rw (← e)
-
-pub asked_one : (a b : Bool) (m : Option Pixel) → a ≡ b → not a ≡ false → m ≡ asked b m
-unfolding asked
-asked_one true b m e t = rw (← e)
-asked_one false b m e t = cc
 
 -- an item and its neighbors: one that is missing is enough
 pub residual-made : (mode : ℕ) (a b c d e : Bool) (v l t tr tl : Pixel)

@@ -1,7 +1,6 @@
 pub mod Items
 pub mod Named
 pub mod Inside
-pub mod Data
 pub mod Columns
 pub mod Stage
 pub mod Before

@@ -3,10 +3,10 @@ use Rattle.std.specs.Prelude.{Option, if◌then◌else◌}
 use mathlib.Core.Bool.{Bool, true, false, not, ◌&&◌, ◌||◌}
 use mathlib.Core.List.{List, [], ◌∷◌}
 use mathlib.Core.Path.{◌≡◌, refl, sym, ap, ◌∙◌}
-use Prim.Native.Nat.{ℕ, zero, suc, ◌+◌, ◌-◌, ◌*◌, ◌<◌, ◌≤◌}
+use Prim.Native.Nat.{ℕ, zero, suc, ◌+◌, ◌-◌, ◌*◌, ◌/◌, ◌%◌, ◌^◌, ◌<◌, ◌≤◌}
 use native.Mathlib.Omega.{arith}
 use lib.Dec.{eqb}
-use lib.ListN.{get_or-eq_default}
+use lib.ListN.{get_or, get_or-eq_default}
 use Rattle.format.specs.declared.Pixel.{Pixel}
 use Rattle.format.specs.Choice.{every}
 use Rattle.format.specs.Byte.{sub}
@@ -19,7 +19,7 @@ use Rattle.format.proofs.Choice.{every_at}
 use Rattle.item.specs.Made.{asked, residual_made}
 use Rattle.item.specs.declared.around.Neighbor.TheVariants.{Left, Top, TopRight, TopLeft}
 use Rattle.item.specs.declared.around.Neighbor.{Neighbor}
-use Rattle.item.specs.Neighbors.{order, names_neighbor, bit_of, Masks, neighbor_at, mode_at}
+use Rattle.item.specs.Neighbors.{order, names_neighbor, neighbor_at, mode_at}
 use Rattle.item.proofs.Items.{asked_made, residual-made}
 
 -- modes 0 to 13 one by one, and all others alike
@@ -57,19 +57,24 @@ pub names_over_13 : (m n : ℕ) → 14 ≤ m → false ≡ names_neighbor m n
 unfolding names_neighbor named_by
 names_over_13 m n h = ap (among n) (sym (get_or-eq_default (mode_names 0 1 2 3) [] h))
 
-pub order_small : (n : Neighbor) → order n < 4
+order_small : (n : Neighbor) → order n < 4
 order_small Left = omega arith
 order_small Top = omega arith
 order_small TopRight = omega arith
 order_small TopLeft = omega arith
 
--- masks that pass a test of every mode and neighbor
+-- bit n of a mode's mask says whether the mode names neighbor n
 module _ (ms : List ℕ) where
-  abbrev pub agree : ℕ → ℕ → Bool
-  agree m n = if bit_of ms m n then names_neighbor m n else not (names_neighbor m n)
+  abbrev bit_of : ℕ → ℕ → Bool
+  bit_of mode n = eqb (get_or ms mode 0 / 2 ^ n % 2) 1
 
-  pub masks_tested : every 14 (λ m. every 4 (agree m)) ≡ true → Masks ms
-  masks_tested t = record { bits = λ m n l u. alike (bit_of ms m n) (names_neighbor m n) (every_at 4 (agree m) n u (every_at 14 (λ m. every 4 (agree m)) m l t)) }
+  abbrev pub agree : ℕ → ℕ → Bool
+  agree mode n = if bit_of mode n then names_neighbor mode n else not (names_neighbor mode n)
+
+  -- a mask v out of masks that pass a test of every mode and neighbor, which computes
+  pub mask_names : (mode v : ℕ) (n : Neighbor) → mode < 14 → v ≡ get_or ms mode 0 → every 14 (λ m. every 4 (agree m)) ≡ true
+      → eqb (v / 2 ^ order n % 2) 1 ≡ names_neighbor mode (order n)
+  mask_names mode v n l e t = rw e (alike _ _ (every_at 4 (agree mode) (order n) (order_small n) (every_at 14 (λ m. every 4 (agree m)) mode l t)))
     where
       alike : (a b : Bool) → (if a then b else not b) ≡ true → a ≡ b
       alike true true e = refl

@@ -2,7 +2,7 @@
 ghost use Rattle.std.specs.Prelude.{◌≡◌, ◌-◌, ◌<◌, ◌≤◌};
 ghost use Rattle.item.specs.Neighbors.{neighbor_at, order};
 
-use crate::place::Place;
+use crate::place::{Place, Stage};
 
 #[derive(Clone, Copy)]
 pub enum Neighbor {
@@ -13,10 +13,12 @@ pub enum Neighbor {
 }
 
 // The number of its bit in a mode's mask.
-pub fn order(n: Neighbor) -> u8
-    ensures { result ≡ order n }
-{
-    n as u8
+impl From<Neighbor> for u8 {
+    ghost from_gives = { λ n bit. bit ≡ order n };
+
+    fn from(n: Neighbor) -> u8 {
+        n as u8
+    }
 }
 
 // The index of a neighbor of a place. A neighbor outside has an index too, which is that of an item inside.
@@ -26,14 +28,14 @@ pub fn neighbor_index(n: Neighbor, at: Place, w: usize) -> usize
     ensures { result ≡ neighbor_at w at.x at.y n }
 {
     let Place { x, y } = at;
-    match n {
-        Neighbor::Left => y * w + x.saturating_sub(1),
-        Neighbor::Top => y.saturating_sub(1) * w + x,
-        Neighbor::TopRight => if x + 1 == w {
-            y * w
-        } else {
-            y.saturating_sub(1) * w + (x + 1)
-        },
-        Neighbor::TopLeft => y.saturating_sub(1) * w + x.saturating_sub(1),
-    }
+    let left = x.saturating_sub(1);
+    let above = y.saturating_sub(1);
+    let place = match n {
+        Neighbor::Left => Place { x: left, y },
+        Neighbor::Top => Place { x, y: above },
+        Neighbor::TopRight if x + 1 == w => Place { x: 0, y },
+        Neighbor::TopRight => Place { x: x + 1, y: above },
+        Neighbor::TopLeft => Place { x: left, y: above },
+    };
+    place.index(Stage(w))
 }

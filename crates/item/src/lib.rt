@@ -3,26 +3,26 @@
 #![tactic(auto)]
 
 mod around;
-mod block;
+mod mode;
 pub mod painted;
 pub mod place;
 mod predict;
 mod residual;
 mod table;
 
-ghost use Rattle.std.specs.Prelude.{◌≡◌, suc, ◌+◌, ◌*◌, ◌<◌, ◌≤◌, length};
+ghost use Rattle.std.specs.Prelude.{◌≡◌, suc, ◌+◌, ◌*◌, ◌/◌, ◌%◌, ◌<◌, ◌≤◌, length};
 ghost use Rattle.format.specs.ColorTable.{per_pixel};
-ghost use Rattle.chain.specs.Valid.{steps_of};
 ghost use Rattle.item.specs.Neighbors.{neighbor_made};
-ghost use Rattle.item.specs.Source.{shown, items_after, item_of, Stands};
+ghost use Rattle.item.specs.Source.{shown, step_of, items_after, item_of, Stands};
 ghost use Rattle.item.specs.Table.{record_made};
 
 use crate::around::{Neighbor, neighbor_index};
+use crate::mode::mode_at;
 use crate::painted::Painted;
 use crate::place::{Place, Stage};
 use crate::predict::names;
 use crate::residual::residual_of;
-use crate::table::{Table, record_of};
+use crate::table::{joined, record_of, repeated};
 use color::color::transform_pixel;
 use color::subtract_green::store_pixel;
 use format::{Pixel, TransformType};
@@ -43,25 +43,46 @@ impl<'a> Painted<'a> {
         }
     }
 
+    // Where item q stands before record k.
+    fn place(&self, k: usize, q: usize) -> Place
+        requires { (k < self.now.opened.chain.count) × (q < items_after self.now k) }
+        ensures stands { Stands self.now k result }
+        ensures column { result.x ≡ q % (step_of self.now k).width }
+        ensures row { result.y ≡ q / (step_of self.now k).width }
+    {
+        Place::of(q, Stage(self.opened.record(k).step.width))
+    }
+
     // Item q after the first k records; None where it cannot be made.
-    #[cycle(item_neighbor_packed_residual)]
+    #[cycle(making)]
+    #[tactic(auto, using(crate::proofs::Stage::made_first))]
     pub fn item(&self, k: usize, q: usize) -> Option<Pixel>
-        requires { (k ≤ self.now.chain.count) × (q < items_after self.now.chain k) }
+        requires { (k ≤ self.now.opened.chain.count) × (q < items_after self.now k) }
         ensures { result ≡ item_of self.now k q }
     {
         if k == 0 {
-            return Some(self.pixel(q));
+            Some(self.pixel(q))
+        } else {
+            self.after(k - 1, q)
         }
-        let j = k - 1;
-        let s = self.chain.steps[j];
-        match s.transform_type() {
-            TransformType::Predictor => self.residual(j, q),
+    }
+
+    // Item q after record k.
+    #[cycle(making)]
+    fn after(&self, k: usize, q: usize) -> Option<Pixel>
+        requires { (k < self.now.opened.chain.count) × (q < items_after self.now (suc k)) }
+        ensures { result ≡ item_of self.now (suc k) q }
+    {
+        let record = self.opened.record(k);
+        let s = record.step;
+        match record.transform_type() {
+            TransformType::Predictor => self.residual(k, q),
             TransformType::Color => {
-                let v = self.item(j, q)?;
-                let at = Place::of(q, Stage(s.width));
-                Some(transform_pixel(self.block(j, at), v))
+                let at = self.place(k, q);
+                let e = record.blocks().at(at.x, at.y);
+                self.item(k, q).map(|v| transform_pixel(e, v))
             },
-            TransformType::SubtractGreen => Some(store_pixel(self.item(j, q)?)),
+            TransformType::SubtractGreen => self.item(k, q).map(store_pixel),
             TransformType::ColorTable => {
                 let n = per_pixel(s.size);
                 let at = Place::of(q, packed_width(Expanded(s.width), s.size));
@@ -69,20 +90,20 @@ impl<'a> Painted<'a> {
                     x: at.x * n,
                     y: at.y,
                 };
-                self.packed(j, n, first)
+                self.packed(k, n, first)
             },
         }
     }
 
     // Item q after the predictor, which is record k.
-    #[cycle(item_neighbor_packed_residual)]
+    #[cycle(making)]
     fn residual(&self, k: usize, q: usize) -> Option<Pixel>
-        requires kind { (k < self.now.chain.count) × ((steps_of self.now.chain k).kind ≡ 0) }
-        requires inside { q < self.now.chain.height * (steps_of self.now.chain k).width }
+        requires inside { (k < self.now.opened.chain.count) × (q < items_after self.now k) }
+        requires kind { (step_of self.now k).kind ≡ 0 }
         ensures { result ≡ item_of self.now (suc k) q }
     {
-        let at = Place::of(q, Stage(self.chain.steps[k].width));
-        let mode = self.mode(k, at);
+        let at = self.place(k, q);
+        let mode = mode_at(&self.opened.record(k).blocks(), at);
         residual_of(
             mode,
             self.item(k, q),
@@ -94,41 +115,43 @@ impl<'a> Painted<'a> {
     }
 
     // A neighbor of a place before record k. One that the mode does not name is not made: any pixel stands for it.
-    #[cycle(item_neighbor_packed_residual)]
+    #[cycle(making)]
+    #[tactic(auto, using(crate::proofs::Before::neighbor_before), unfolding(crate::specs::Made::asked))]
     fn neighbor(&self, k: usize, mode: u8, n: Neighbor, at: Place) -> Option<Pixel>
-        requires { Stands self.now.chain k at }
-        ensures { result ≡ neighbor_made (steps_of self.now.chain) self.now.«data».now k
-            (shown self.now.picture.now self.now.point) mode n at }
+        requires { Stands self.now k at }
+        ensures { result ≡ neighbor_made self.now k mode n at }
     {
-        if !names(mode, n) {
-            return Some(CLEAR);
+        if names(mode, n) {
+            self.item(k, neighbor_index(n, at, self.opened.record(k).step.width))
+        } else {
+            Some(CLEAR)
         }
-        self.item(k, neighbor_index(n, at, self.chain.steps[k].width))
     }
 
     // The record of n positions from a place on, by the table that is record k. The index of the row's last column is
     // at the positions after it too.
-    #[cycle(item_neighbor_packed_residual)]
+    #[cycle(making)]
+    #[tactic(auto, using(crate::proofs::Columns::no_columns))]
     fn packed(&self, k: usize, n: usize, at: Place) -> Option<Pixel>
-        requires stands { Stands self.now.chain k at }
-        requires kind { (steps_of self.now.chain k).kind ≡ 3 }
-        requires few { n ≤ per_pixel (steps_of self.now.chain k).size }
-        ensures { result ≡ record_made (steps_of self.now.chain) self.now.«data».now k
-            (shown self.now.picture.now self.now.point) at.y n at.x }
+        requires stands { Stands self.now k at }
+        requires kind { (step_of self.now k).kind ≡ 3 }
+        requires few { n ≤ per_pixel (step_of self.now k).size }
+        ensures { result ≡ record_made self.now k at.y n at.x }
     {
         if n == 0 {
             return Some(record_of(0));
         }
-        let s = self.chain.steps[k];
-        let table = Table::new(self.data, s);
-        let first = self.item(k, at.index(Expanded(s.width)));
-        if s.width <= at.x + 1 {
-            return table.repeated(first, n);
+        let record = self.opened.record(k);
+        let entries = record.entries();
+        let width = record.step.width;
+        let first = self.item(k, at.index(Expanded(width)));
+        if width <= at.x + 1 {
+            return repeated(&entries, first, n);
         }
         let next = Place {
             x: at.x + 1,
             y: at.y,
         };
-        table.joined(first, self.packed(k, n - 1, next))
+        joined(&entries, first, self.packed(k, n - 1, next))
     }
 }

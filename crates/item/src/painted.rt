@@ -1,7 +1,7 @@
 // A picture with one point painted, and the chain that it is stored by.
-ghost use Rattle.chain.specs.Valid.{Valid, HoldsPicture};
+ghost use Rattle.chain.specs.Valid.{HoldsPicture};
 
-use chain::Chain;
+use chain::record::ValidChain;
 use format::Pixel;
 
 // The point: its index in the picture, and its color.
@@ -13,10 +13,8 @@ pub struct Point {
 
 #[derive(Clone, Copy)]
 pub struct Painted<'a> {
-    pub chain: Chain,
-    pub data: &'a [u8],
+    pub opened: ValidChain<'a>,
     pub picture: &'a [u8],
     pub point: Point,
-    pub ghost valid: { Valid chain «data».now },
-    pub ghost held: { HoldsPicture chain picture.now },
+    pub ghost held: { HoldsPicture opened.chain picture.now },
 }

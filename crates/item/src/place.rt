@@ -50,7 +50,8 @@ impl Place {
     // Where item q stands.
     pub fn of<S: Stride>(q: usize, row: S) -> Self
         requires { 1 ≤ S.columns row }
-        ensures { (result.x ≡ q % S.columns row) × (result.y ≡ q / S.columns row) }
+        ensures column { result.x ≡ q % S.columns row }
+        ensures row { result.y ≡ q / S.columns row }
     {
         let columns = row.columns();
         Place {

@@ -1,26 +1,16 @@
 // Records of indices, index by index.
-ghost use Rattle.std.specs.Prelude.{◌≡◌, ◌*◌, ◌^◌, ◌<◌, ◌≤◌, length};
+ghost use Rattle.std.specs.Prelude.{◌≡◌, ◌^◌, ◌<◌, ◌≤◌};
 ghost use Rattle.format.specs.Pixel.{pixel};
 ghost use Rattle.format.specs.Picture.{pixels};
 ghost use Rattle.format.specs.ColorTable.{per_pixel, digits};
-ghost use Rattle.format.specs.Stages.{data_of};
 ghost use Rattle.color_table.specs.Found.{found};
-ghost use Rattle.item.specs.Table.{joined_made, repeated_made, EntriesIn, Room};
+ghost use Rattle.item.specs.Table.{joined_made, repeated_made, Room};
 
-use chain::part_of;
 use color_table::find::scan;
 use color_table::table::index_range;
-use format::{Pixel, Step};
+use format::Pixel;
+use pixel::entries::Entries;
 use pixel::word::Word;
-
-// The entries that a record of a chain names.
-#[derive(Clone, Copy)]
-pub struct Table<'a> {
-    pub entries: &'a [u8],
-    pub size: usize,
-    pub ghost room: { 4 * size ≤ length entries.now },
-    pub ghost small: { size ≤ 256 },
-}
 
 pub fn record_of(byte: u8) -> Pixel
     ensures { result ≡ pixel 0 byte 0 255 }
@@ -34,6 +24,7 @@ pub fn record_of(byte: u8) -> Pixel
 }
 
 // The byte of n positions that all have the index i.
+#[tactic(auto, using(crate::proofs::Columns::again_fits))]
 fn repeated_index(i: usize, n: usize, range: usize) -> u8
     requires { (i < range) × (range ^ n ≤ 256) }
     ensures { result ≡ digits range n (λ k. i) }
@@ -45,44 +36,32 @@ fn repeated_index(i: usize, n: usize, range: usize) -> u8
     byte as u8
 }
 
-impl<'a> Table<'a> {
-    pub fn new(data: &'a [u8], s: Step) -> Self
-        requires { EntriesIn s (length «data».now) }
-        ensures { (result.entries.now ≡ data_of s «data».now) × (result.size ≡ s.size) }
-    {
-        Table {
-            entries: part_of(data, s),
-            size: s.size,
-        }
-    }
+// The lowest index of a pixel that has an entry.
+fn index(entries: &Entries, v: Pixel) -> Option<usize>
+    ensures { result ≡ found entries.now.size (pixels entries.now.bytes.now) v }
+{
+    scan(entries.bytes, entries.size, Word::from(v))
+}
 
-    // The lowest index of a pixel that has an entry.
-    fn index(&self, v: Pixel) -> Option<usize>
-        ensures { result ≡ found self.now.size (pixels self.now.entries.now) v }
-    {
-        scan(self.entries, self.size, Word::from(v))
-    }
+// The record of n positions that all have the index of an item.
+#[tactic(auto, using(crate::proofs::Columns::found_inside, crate::proofs::Columns::fewer_fit), unfolding(crate::specs::Table::repeated_made))]
+pub fn repeated(entries: &Entries, item: Option<Pixel>, n: usize) -> Option<Pixel>
+    requires { n ≤ per_pixel entries.now.size }
+    ensures { result ≡ repeated_made entries.now.size (pixels entries.now.bytes.now) n item }
+{
+    let i = index(entries, item?)?;
+    Some(record_of(repeated_index(i, n, index_range(entries.size))))
+}
 
-    // The record of n positions that all have the index of an item.
-    #[tactic(auto, unfolding(crate::specs::Table::repeated_made))]
-    pub fn repeated(&self, item: Option<Pixel>, n: usize) -> Option<Pixel>
-        requires { n ≤ per_pixel self.now.size }
-        ensures { result ≡ repeated_made self.now.size (pixels self.now.entries.now) n item }
-    {
-        let i = self.index(item?)?;
-        Some(record_of(repeated_index(i, n, index_range(self.size))))
-    }
-
-    // The record of a column and of the positions after it, by the record of these.
-    #[tactic(auto, unfolding(crate::specs::Table::joined_made))]
-    pub fn joined(&self, first: Option<Pixel>, rest: Option<Pixel>) -> Option<Pixel>
-        requires { Room self.now.size rest }
-        ensures { result ≡ joined_made self.now.size (pixels self.now.entries.now) first rest }
-    {
-        let v = first?;
-        let r = rest?;
-        let i = self.index(v)?;
-        let byte = i + index_range(self.size) * (r.green as usize);
-        Some(record_of(byte as u8))
-    }
+// The record of a column and of the positions after it, by the record of these.
+#[tactic(auto, using(crate::proofs::Columns::found_inside, crate::proofs::Columns::byte_fits), unfolding(crate::specs::Table::joined_made))]
+pub fn joined(entries: &Entries, first: Option<Pixel>, rest: Option<Pixel>) -> Option<Pixel>
+    requires { Room entries.now.size rest }
+    ensures { result ≡ joined_made entries.now.size (pixels entries.now.bytes.now) first rest }
+{
+    let v = first?;
+    let r = rest?;
+    let i = index(entries, v)?;
+    let byte = i + index_range(entries.size) * (r.green as usize);
+    Some(record_of(byte as u8))
 }

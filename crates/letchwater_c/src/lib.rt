@@ -1,5 +1,6 @@
 // The calls of the library `letchwater` as C functions of a static library, for the Rust host: the same names and
-// parameters, a number for each result. Each contract gives it and every byte of every lent buffer, on every input.
+// parameters, each by itself since C has no struct of ours, and a number for each result. Each contract gives it and
+// every byte of every lent buffer, on every input, so that the clauses of `letchwater` stand here too.
 #![tactic(auto)]
 
 ghost use Rattle.std.specs.Prelude.{◌≡◌};

@@ -1,9 +1,10 @@
 -- Where the rows of a picture, and the data pixels of its blocks, stand.
-use Rattle.std.proofs.Common.{◌≡◌, ℕ, ◌+◌, ◌*◌, ◌/◌, ◌^◌, ◌<◌, ◌≤◌, List, length, ap, ◌∙◌, mul-le-mul_right, add-mul, one-mul, div-mul-le_self, arith, pow_pos}
-use native.Mathlib.Nat.{div-eq_of_lt-le}
+use Rattle.std.proofs.Common.{◌≡◌, ℕ, ◌+◌, ◌-◌, ◌*◌, ◌/◌, ◌^◌, ◌<◌, ◌≤◌, List, length, refl, ap, ◌∙◌, mul-le-mul_right, add-mul, one-mul, arith, pow_pos}
+use native.Mathlib.Nat.{div-eq_of_lt-le, lt-div-mul-add}
 use Rattle.format.specs.Picture.{pixels, ceiling}
 use Rattle.format.proofs.ColorTable.{column_packed}
 use Rattle.format.specs.Sizes.{Blocked}
+use Rattle.pixel.specs.Blocks.{block_start}
 use Rattle.pixel.proofs.Part.{part, pixels_part}
 
 -- row y of h rows of w
@@ -14,9 +15,19 @@ row_there w h y l = rw (add-mul, one-mul) at (mul-le-mul_right {m = y + 1} {n = 
 pub block_there : (w bits x : ℕ) → x < w → x / 2 ^ bits < ceiling w (2 ^ bits)
 block_there w bits x l = column_packed w (2 ^ bits) x (pow_pos bits) l
 
--- a column of the block that x is in
-pub same_block : (side x i : ℕ) → x ≤ i → i < x / side * side + side → i / side ≡ x / side
-same_block side x i l u = div-eq_of_lt-le side (omega (arith, div-mul-le_self x side)) (rw (add-mul, one-mul) (omega arith))
+-- blocks cover a row, one after the other
+pub start_none : (w bits : ℕ) → block_start w bits 0 ≡ 0
+start_none w bits = omega arith
+
+pub start_up : (w bits k : ℕ) → block_start w bits k ≤ block_start w bits (k + 1)
+start_up w bits k = let e : (k + 1) * 2 ^ bits ≡ k * 2 ^ bits + 2 ^ bits = rw (add-mul, one-mul) refl in omega arith
+
+pub start_last : (w bits : ℕ) → block_start w bits (ceiling w (2 ^ bits)) ≡ w
+start_last w bits = omega (arith, pow_pos bits, lt-div-mul-add {a = w + 2 ^ bits - 1} (pow_pos bits))
+
+-- a column of block k
+pub same_block : (w bits k i : ℕ) → block_start w bits k ≤ i → i < block_start w bits (k + 1) → i / 2 ^ bits ≡ k
+same_block w bits k i l u = div-eq_of_lt-le (2 ^ bits) (omega arith) (omega arith)
 
 -- the blocks of row y
 pub blocks_there : (w h bits y : ℕ) → y < h → y / 2 ^ bits * ceiling w (2 ^ bits) + ceiling w (2 ^ bits) ≤ ceiling h (2 ^ bits) * ceiling w (2 ^ bits)

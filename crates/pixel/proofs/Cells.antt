@@ -6,16 +6,9 @@ use lib.Seq.{set_comm, set-get_or}
 use Rattle.format.specs.declared.Pixel.{Pixel}
 use Rattle.format.specs.Pixel.{pixel}
 use Rattle.format.specs.Picture.{byte_at, pixels, paint, in_order}
-use Rattle.pixel.specs.Cells.{Cells, byte_cells, pixel_cells, put_pixel, Rule, run}
+use Rattle.pixel.specs.Cells.{Cells, Lawful, byte_cells, pixel_cells, put_pixel, Rule, run}
 
 -- one cell replaced
-
--- what replacing a cell does to the others, and to itself where it is inside
-pub record Lawful {P : Type 0} (c : Cells P) : Type 0 where
-  pub length_put : (xs : List ℕ) (i : ℕ) (v : P) → length (c.put xs i v) ≡ length xs
-  pub get_other : (xs : List ℕ) (i j : ℕ) (v : P) → (j ≡ i → ⊥) → c.get (c.put xs i v) j ≡ c.get xs j
-  pub get_same : (xs : List ℕ) (i : ℕ) (v : P) → c.size * i + c.size ≤ length xs → c.get (c.put xs i v) i ≡ v
-  pub put_comm : (xs : List ℕ) (i j : ℕ) (u v : P) → (i ≡ j → ⊥) → c.put (c.put xs i u) j v ≡ c.put (c.put xs j v) i u
 
 pub byte_lawful : Lawful byte_cells
 byte_lawful = record {

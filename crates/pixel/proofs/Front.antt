@@ -6,8 +6,8 @@ use Rattle.format.specs.declared.Pixel.{Pixel}
 use Rattle.format.specs.Picture.{Picture, byte_at, pixels, written, written_bytes, paint, in_order}
 use Rattle.format.proofs.Picture.{written_same, length_written_bytes, byte_at_written_bytes, in_order_kept, paint_at, paint_other}
 use Rattle.format.proofs.Written.{written_self}
-use Rattle.pixel.specs.Cells.{Cells, pixel_cells, put_pixel, Rule, run}
-use Rattle.pixel.proofs.Cells.{Lawful, pixel_lawful, get_run}
+use Rattle.pixel.specs.Cells.{Cells, Lawful, pixel_cells, put_pixel, Rule, run}
+use Rattle.pixel.proofs.Cells.{pixel_lawful, get_run}
 
 -- how the front of a buffer is written, one cell more at a time
 pub record Front {P : Type 0} (c : Cells P) (front : ℕ → (ℕ → P) → List ℕ → List ℕ) : Type 0 where

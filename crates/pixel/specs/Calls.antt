@@ -3,7 +3,7 @@
 use Rattle.std.specs.Borrow.{Bor}
 use Rattle.std.specs.Prelude.{List, ◌≡◌, ℕ, ◌-◌, ◌<◌, ◌≤◌, length}
 use Rattle.format.specs.declared.Pixel.{Pixel}
-use Rattle.format.specs.Picture.{Picture, pixels}
+use Rattle.format.specs.Picture.{pixels}
 use Rattle.pixel.specs.Cells.{Cells, Rule}
 
 -- the rule may be asked of any buffer of n bytes
@@ -25,8 +25,8 @@ GivesLeft post n a b h =
     (ys : Bor (List ℕ)) (i : ℕ) (v : Pixel) → length ys.now ≡ n → a ≤ i → i < b → post ys i (pixels ys.now (i - 1)) v
     → v ≡ h (pixels ys.now) i
 
--- where the pixels up to i are still those of xs, it gives what f gives
-abbrev pub GivesBack : (Bor (List ℕ) → ℕ → Pixel → Type 0) → List ℕ → ℕ → ℕ → Picture → Type 0
-GivesBack post xs a b f =
-    (ys : Bor (List ℕ)) (i : ℕ) (v : Pixel) → length ys.now ≡ length xs → a ≤ i → i < b
-    → ((j : ℕ) → j ≤ i → pixels ys.now j ≡ pixels xs j) → post ys i v → v ≡ f i
+-- where the cells up to i are still those of xs, it gives what f gives
+abbrev pub GivesBack : {C P : Type 0} → Cells P → (C → P) → (Bor (List ℕ) → ℕ → C → Type 0) → List ℕ → ℕ → ℕ → (ℕ → P) → Type 0
+GivesBack {C} c value post xs a b f =
+    (ys : Bor (List ℕ)) (i : ℕ) (v : C) → length ys.now ≡ length xs → a ≤ i → i < b
+    → ((j : ℕ) → j ≤ i → c.get ys.now j ≡ c.get xs j) → post ys i v → value v ≡ f i

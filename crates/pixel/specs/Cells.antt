@@ -1,5 +1,5 @@
 -- A buffer as numbered cells, each a byte or a pixel, and cells replaced in order: what a loop over a buffer does.
-use Rattle.std.specs.Prelude.{ℕ, zero, suc, ◌+◌, ◌*◌, List, slice_set}
+use Rattle.std.specs.Prelude.{◌≡◌, ℕ, zero, suc, ◌+◌, ◌*◌, ◌≤◌, List, length, slice_set}
 use Rattle.format.specs.declared.Pixel.{Pixel}
 use Rattle.format.specs.Picture.{byte_at, pixels}
 
@@ -8,6 +8,13 @@ pub record Cells (P : Type 0) : Type 0 where
   pub get : List ℕ → ℕ → P
   pub put : List ℕ → ℕ → P → List ℕ
   pub size : ℕ
+
+-- what replacing a cell does to the others, and to itself where it is inside
+pub record Lawful {P : Type 0} (c : Cells P) : Type 0 where
+  pub length_put : (xs : List ℕ) (i : ℕ) (v : P) → length (c.put xs i v) ≡ length xs
+  pub get_other : (xs : List ℕ) (i j : ℕ) (v : P) → (j ≡ i → ⊥) → c.get (c.put xs i v) j ≡ c.get xs j
+  pub get_same : (xs : List ℕ) (i : ℕ) (v : P) → c.size * i + c.size ≤ length xs → c.get (c.put xs i v) i ≡ v
+  pub put_comm : (xs : List ℕ) (i j : ℕ) (u v : P) → (i ≡ j → ⊥) → c.put (c.put xs i u) j v ≡ c.put (c.put xs j v) i u
 
 abbrev pub byte_cells : Cells ℕ
 byte_cells = record { get = byte_at; put = slice_set; size = 1 }

@@ -50,7 +50,7 @@ pub fn put_pixel(xs: &mut [u8], i: usize, v: Pixel)
 }
 
 // Channel by channel, modulo 256. Here and below the channels are written out: by a closure for each channel, the loops
-// of the modes take up to twice the time.
+// of the modes take longer.
 pub fn add_pixels(u: Pixel, v: Pixel) -> Pixel
     ensures { result ≡ each add u v }
 {
@@ -62,6 +62,7 @@ pub fn add_pixels(u: Pixel, v: Pixel) -> Pixel
     }
 }
 
+// A function, since with the four differences in one the proof by congruence does not close.
 fn minus(a: u8, b: u8) -> u8
     ensures { result ≡ sub a b }
 {

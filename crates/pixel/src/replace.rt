@@ -1,8 +1,7 @@
 // Loops over a buffer, whatever rule gives the new cells.
-ghost use Rattle.std.specs.Prelude.{◌≡◌, ◌-◌, ◌*◌, ◌≤◌, length};
+ghost use Rattle.std.specs.Prelude.{◌≡◌, ℕ, ◌-◌, ◌*◌, ◌≤◌, length};
 ghost use Rattle.format.specs.declared.Pixel.{Pixel};
-ghost use Rattle.format.specs.Picture.{Picture};
-ghost use Rattle.pixel.specs.Cells.{pixel_cells, Rule, run, given};
+ghost use Rattle.pixel.specs.Cells.{pixel_cells, Lawful, Rule, run, given};
 ghost use Rattle.pixel.specs.Calls.{Asked, Gives, AskedLeft, GivesLeft, GivesBack};
 
 use crate::cell::Cell;
@@ -41,15 +40,19 @@ pub fn replace_left<F: Fn(&[u8], usize, Pixel) -> Pixel>(
     }
 }
 
-// Pixels `from` up to `to` from the last to the first.
-pub fn replace_back<F: Fn(&[u8], usize) -> Pixel>(xs: &mut [u8], from: usize, to: usize, rule: F)
-    requires inside { (from ≤ to) × (4 * to ≤ length xs.old) }
+// Cells `from` up to `to` from the last to the first.
+pub fn replace_back<C: Cell, F: Fn(&[u8], usize) -> C>(
+    xs: &mut [u8],
+    from: usize,
+    to: usize,
+    rule: F,
+)
+    requires inside { (from ≤ to) × (C.cells.size * to ≤ length xs.old) }
     requires asked { Asked (F.pre rule) (length xs.old) from to }
-    ensures { (f : Picture) → GivesBack (F.post rule) xs.old from to f
-        → xs.new ≡ run pixel_cells (given f) from (to - from) xs.old }
+    ensures { Lawful C.cells → (f : ℕ → C.Value) → GivesBack C.cells C.value (F.post rule) xs.old from to f
+        → xs.new ≡ run C.cells (given f) from (to - from) xs.old }
 {
     for i in (from..to).rev() {
-        let v = rule(xs, i);
-        put_pixel(xs, i, v);
+        rule(xs, i).put(xs, i);
     }
 }

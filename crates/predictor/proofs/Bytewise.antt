@@ -6,9 +6,9 @@ use Rattle.format.specs.Byte.{avg, clamp_full, clamp_half}
 use Rattle.format.specs.Pixel.{pixel, each, each3}
 use Rattle.format.specs.Picture.{byte_at, pixels}
 use Rattle.format.specs.Predictor.{predict}
-use Rattle.pixel.specs.Cells.{byte_cells, pixel_cells, run, given}
+use Rattle.pixel.specs.Cells.{byte_cells, run, given}
 use Rattle.pixel.proofs.Channels.{Channels, pixels_bytes}
-use Rattle.predictor.specs.Row.{around, gains, residual}
+use Rattle.predictor.specs.Row.{around, gains, residual, segment_gained, segment_lost}
 use Rattle.predictor.specs.Bytewise.{Channelwise, predict_byte, byte_around, byte_gains, byte_residual}
 
 pub byte_over_13 : (m l t tr tl : ℕ) → 14 ≤ m → predict_byte m l t tr tl ≡ 0
@@ -89,34 +89,33 @@ module _ (m w : ℕ) (n : Channelwise m) (wide : 2 ≤ w) (xs : List ℕ) (q : �
         alpha = λ ys before after. rw (alpha-at ys before, after (4 * q + 3) (omega arith));
       }
 
-module _ (m w : ℕ) (n : Channelwise m) (wide : 2 ≤ w) where
-  -- rebuilding
-  pub bytes_gained : (from to : ℕ) (xs ys : List ℕ) → ys ≡ run byte_cells (byte_gains m (4 * w)) (4 * from) (4 * to - 4 * from) xs → w + 1 ≤ from
-      → ys ≡ run pixel_cells (gains (around m w)) from (to - from) xs
-  bytes_gained from to xs ys e off =
-      let k : 4 * to - 4 * from ≡ 4 * (to - from) = omega arith in
-      e ∙ rw k (pixels_bytes (byte_gains m (4 * w)) (gains (around m w)) from xs (to - from) (λ q a b zs c. gained m w n wide zs q (omega arith)))
+module _ (m w : ℕ) (n : Channelwise m) (wide : 2 ≤ w) (rows : List ℕ) (x : ℕ) (off : 1 ≤ x) (xs : List ℕ) where
+  lost : Channels (given (byte_residual m (4 * w) (byte_at rows))) xs x (given (residual (around m w) w (pixels rows)) (pixels xs) x)
+  unfolding given byte_residual each pixels
+  lost =
+      let q = w + x in
+      let l : w + 1 ≤ q = omega arith in
+      let r : 4 * w + 4 * x ≡ 4 * q = omega arith in
+      let g : 4 * w + (4 * x + 1) ≡ 4 * q + 1 = omega arith in
+      let b : 4 * w + (4 * x + 2) ≡ 4 * q + 2 = omega arith in
+      let a : 4 * w + (4 * x + 3) ≡ 4 * q + 3 = omega arith in
+      record {
+        red = rw (r, red-at m w n wide rows q l);
+        green = λ ys before after. rw (g, green-at m w n wide rows q l rows (λ j u. refl));
+        blue = λ ys before after. rw (b, blue-at m w n wide rows q l rows (λ j u. refl));
+        alpha = λ ys before after. rw (a, alpha-at m w n wide rows q l rows (λ j u. refl));
+      }
 
-  -- storing
-  module _ (rows : List ℕ) where
-    lost : (x : ℕ) → 1 ≤ x → (xs : List ℕ) → Channels (given (byte_residual m (4 * w) (byte_at rows))) xs x (given (residual (around m w) w (pixels rows)) (pixels xs) x)
-    unfolding given byte_residual each pixels
-    lost x off xs =
-        let q = w + x in
-        let l : w + 1 ≤ q = omega arith in
-        let r : 4 * w + 4 * x ≡ 4 * q = omega arith in
-        let g : 4 * w + (4 * x + 1) ≡ 4 * q + 1 = omega arith in
-        let b : 4 * w + (4 * x + 2) ≡ 4 * q + 2 = omega arith in
-        let a : 4 * w + (4 * x + 3) ≡ 4 * q + 3 = omega arith in
-        record {
-          red = rw (r, red-at m w n wide rows q l);
-          green = λ ys before after. rw (g, green-at m w n wide rows q l rows (λ j u. refl));
-          blue = λ ys before after. rw (b, blue-at m w n wide rows q l rows (λ j u. refl));
-          alpha = λ ys before after. rw (a, alpha-at m w n wide rows q l rows (λ j u. refl));
-        }
+-- columns a up to b, rebuilt and stored
 
-    pub bytes_lost : (from to : ℕ) (xs ys : List ℕ) → ys ≡ run byte_cells (given (byte_residual m (4 * w) (byte_at rows))) (4 * from) (4 * to - 4 * from) xs → 1 ≤ from
-        → ys ≡ run pixel_cells (given (residual (around m w) w (pixels rows))) from (to - from) xs
-    bytes_lost from to xs ys e off =
-        let k : 4 * to - 4 * from ≡ 4 * (to - from) = omega arith in
-        e ∙ rw k (pixels_bytes (given (byte_residual m (4 * w) (byte_at rows))) (given (residual (around m w) w (pixels rows))) from xs (to - from) (λ q a b zs c. lost q (omega arith) zs))
+module _ (m w : ℕ) (n : Channelwise m) (a b : ℕ) (off : 1 ≤ a) (inside : b ≤ w) (xs ys : List ℕ) where
+  pub bytes_gained : ys ≡ run byte_cells (byte_gains m (4 * w)) (4 * w + 4 * a) (4 * w + 4 * b - (4 * w + 4 * a)) xs → ys ≡ segment_gained m w a b xs
+  bytes_gained e =
+      let f : 4 * w + 4 * a ≡ 4 * (w + a) = omega arith in
+      let k : 4 * w + 4 * b - (4 * w + 4 * a) ≡ 4 * (w + b - (w + a)) = omega arith in
+      e ∙ rw (k, f) (pixels_bytes (byte_gains m (4 * w)) (gains (around m w)) (w + a) xs (w + b - (w + a)) (λ q l u zs c. gained m w n (omega arith) zs q (omega arith)))
+
+  pub bytes_lost : (rows : List ℕ) → ys ≡ run byte_cells (given (byte_residual m (4 * w) (byte_at rows))) (4 * a) (4 * b - 4 * a) xs → ys ≡ segment_lost m w a b rows xs
+  bytes_lost rows e =
+      let k : 4 * b - 4 * a ≡ 4 * (b - a) = omega arith in
+      e ∙ rw k (pixels_bytes (given (byte_residual m (4 * w) (byte_at rows))) (given (residual (around m w) w (pixels rows))) a xs (b - a) (λ x l u zs c. lost m w n (omega arith) rows x (omega arith) zs))

@@ -1,6 +1,6 @@
 -- Mode 11: the choice between two neighbors, carried from pixel to pixel.
 use Rattle.std.specs.Prelude.{if◌then◌else◌}
-use Rattle.std.proofs.Common.{◌≡◌, ℕ, ◌+◌, ◌-◌, ◌*◌, ◌≤◌, Bool, true, false, ltb, List, length, refl, ap, ◌∙◌, arith}
+use Rattle.std.proofs.Common.{◌≡◌, ℕ, ◌+◌, ◌-◌, ◌*◌, ◌≤◌, Bool, ltb, List, length, ap, ◌∙◌, arith}
 use Rattle.format.specs.declared.Pixel.{Pixel}
 use Rattle.format.specs.Picture.{pixels}
 use Rattle.format.specs.Predictor.{predict}
@@ -9,11 +9,6 @@ use Rattle.pixel.proofs.Distance.{select_between}
 use Rattle.pixel.specs.Cells.{put_pixel}
 use Rattle.pixel.proofs.Cells.{pixel_same, pixel_other}
 use Rattle.predictor.specs.Row.{around, left_nearer}
-
--- a function of the choice
-pub pick_after : {A B : Type 0} (f : A → B) (n : Bool) (x y : A) → (if n then f x else f y) ≡ f (if n then x else y)
-pick_after f true x y = refl
-pick_after f false x y = refl
 
 pub around_11 : (w : ℕ) (p : ℕ → Pixel) (i : ℕ) → around 11 w p i ≡ (if left_nearer w p i then p (i - 1) else p (i - w))
 unfolding predict

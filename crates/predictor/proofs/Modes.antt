@@ -7,7 +7,7 @@ use Rattle.format.proofs.Modes.{mode_over_13}
 use Rattle.pixel.specs.Cells.{pixel_cells, put_pixel, run}
 use Rattle.pixel.proofs.Cells.{put_same}
 use Rattle.pixel.proofs.Given.{given_same}
-use Rattle.predictor.specs.Row.{around, gains, residual, lost_by}
+use Rattle.predictor.specs.Row.{around, gains, residual, segment_lost}
 
 zero_added : (x : ℕ) → x < 256 → add x 0 ≡ x
 zero_added x h = omega arith
@@ -28,7 +28,7 @@ run_over_13 m w a xs (suc n) h small =
     sym (put_same xs (a + n)) ∙ ap (put_pixel xs (a + n)) (sym v) ∙ ap (λ (ys : List ℕ). put_pixel ys (a + n) (gains (around m w) (pixels ys) (a + n))) r
 
 -- and storing by one is storing by another
-pub lost_over_13 : (m w : ℕ) (rows : List ℕ) (a b : ℕ) (xs : List ℕ) → 14 ≤ m → lost_by (around 14 w) w rows a b xs ≡ lost_by (around m w) w rows a b xs
+pub lost_over_13 : (m w : ℕ) (rows : List ℕ) (a b : ℕ) (xs : List ℕ) → 14 ≤ m → segment_lost 14 w a b rows xs ≡ segment_lost m w a b rows xs
 lost_over_13 m w rows a b xs h =
     given_same (residual (around 14 w) w (pixels rows)) (residual (around m w) w (pixels rows)) a xs (b - a)
     (λ x l u. ap (each sub (pixels rows (w + x))) (mode_over_13 14 _ _ _ _ (omega arith) ∙ sym (mode_over_13 m _ _ _ _ h)))

@@ -5,28 +5,28 @@ use native.Mathlib.Decide.{ℕ_discrete}
 use lib.Arith.{digits_div, digits_mod}
 use Rattle.format.specs.declared.Pixel.{Pixel}
 use Rattle.format.specs.Byte.{add}
-use Rattle.format.specs.Pixel.{each}
+use Rattle.format.specs.Pixel.{black, each}
 use Rattle.format.specs.Picture.{Picture, pixels, block, ceiling}
 use Rattle.format.specs.Predictor.{gained, predict, predicted, mode, left, top, top_right, top_left}
 use Rattle.format.proofs.Predictor.{row_above}
-use Rattle.pixel.specs.Cells.{pixel_cells, run}
-use Rattle.format.specs.Sizes.{Blocked, Holds}
-use Rattle.pixel.proofs.Blocks.{row_there, block_there, data-part}
-use Rattle.pixel.proofs.Cells.{pixel_lawful, run_same}
+use Rattle.pixel.specs.Cells.{pixel_cells, put_pixel, run}
+use Rattle.pixel.specs.Held.{HoldsRow}
+use Rattle.format.specs.Sizes.{Holds}
+use Rattle.pixel.proofs.Blocks.{row_there, block_there}
 use Rattle.pixel.proofs.Rows.{run_then}
-use Rattle.pixel.proofs.Part.{back, part, part_run}
-use Rattle.predictor.specs.Row.{around, gains, row_predicted}
+use Rattle.pixel.proofs.Part.{back, part_run}
+use Rattle.predictor.specs.Row.{gains, row_predicted}
 use Rattle.predictor.proofs.Blocks.{row_first}
 
--- row 0
+-- row 0: the first pixel is predicted as black, the others as L
 
 module _ (w bits : ℕ) (D : Picture) (p : ℕ → Pixel) where
-  pub predicted_first : 0 < w → predicted w bits D p (0 % w) (0 / w) ≡ around 0 w p 0
-  unfolding predicted predict
+  pub predicted_first : 0 < w → predicted w bits D p (0 % w) (0 / w) ≡ black
+  unfolding predicted
   predicted_first h = rw (div-eq_of_lt h, mod-eq_of_lt h)
 
-  pub predicted_left : (i : ℕ) → 1 ≤ i → i < w → predicted w bits D p (i % w) (i / w) ≡ around 1 w p i
-  unfolding predicted predict
+  pub predicted_left : (i : ℕ) → 1 ≤ i → i < w → predicted w bits D p (i % w) (i / w) ≡ p (i - 1)
+  unfolding predicted
   predicted_left i l u =
       let n : i ≡ 0 → ⊥ = λ z. omega arith in
       let z : 0 * w + (i - 1) ≡ i - 1 = omega arith in
@@ -99,38 +99,37 @@ module _ (w bits y : ℕ) (D d : Picture) (off : 1 ≤ y) (blocks : (j : ℕ) �
 pub pair_there : (w h y : ℕ) → 1 ≤ y → y < h → (y - 1) * w + 2 * w ≤ h * w
 pair_there w h y off below = omega (arith, row_there w h y below, row_above w y (λ z. omega arith))
 
-pub row_back : (w h bits y : ℕ) (bs xs : List ℕ) → Holds w h xs → Blocked w h bits bs → 1 ≤ y → y < h → (bx k : ℕ) → bx ≡ ceiling w (2 ^ bits) → k ≡ 8 * w
-    → back (4 * ((y - 1) * w)) k xs (run pixel_cells (gains (row_predicted w bits (pixels (part (y / 2 ^ bits * bx) bx bs)))) w w (take k (drop (4 * ((y - 1) * w)) xs)))
+-- row y, by blocks whose data is the part rs
+pub row_back : (w h bits y : ℕ) (bs rs xs : List ℕ) → Holds w h xs → 1 ≤ y → y < h → HoldsRow (pixels bs) (y / 2 ^ bits) (ceiling w (2 ^ bits)) rs → (k : ℕ) → k ≡ 8 * w
+    → back (4 * ((y - 1) * w)) k xs (run pixel_cells (gains (row_predicted w bits (pixels rs))) w w (take k (drop (4 * ((y - 1) * w)) xs)))
     ≡ run pixel_cells (gained w bits (pixels bs)) (y * w) w xs
 unfolding gained
-row_back w h bits y bs xs room blocked off below bx k e f =
+row_back w h bits y bs rs xs room off below blocks k f =
     let up = row_above w y (λ z. omega arith) in
     let k2 : k ≡ 4 * (w + w) = omega arith in
-    let d = pixels (part (y / 2 ^ bits * bx) bx bs) in
     rw (k2, ← up)
-    (part_run (gained w bits (pixels bs)) (gains (row_predicted w bits d)) ((y - 1) * w) (w + w) w xs (omega (arith, pair_there w h y off below)) w (omega arith)
-    (λ p q i l u agree. cc (agree i u, row-predicted w bits y (pixels bs) d off (data-part w h bits y bs blocked below bx e) p q agree i l u)))
+    (part_run (gained w bits (pixels bs)) (gains (row_predicted w bits (pixels rs))) ((y - 1) * w) (w + w) w xs (omega (arith, pair_there w h y off below)) w (omega arith)
+    (λ p q i l u agree. cc (agree i u, row-predicted w bits y (pixels bs) (pixels rs) off blocks p q agree i l u)))
 
 -- row 0
 
--- the first pixel, then the others
-pub first_row : (w bits : ℕ) (D : Picture) (xs ys zs : List ℕ) → ys ≡ run pixel_cells (gains (around 0 w)) 0 (1 - 0) xs → zs ≡ run pixel_cells (gains (around 1 w)) 1 (w - 1) ys → 1 ≤ w
-    → zs ≡ run pixel_cells (gained w bits D) 0 w xs
-unfolding gained
-first_row w bits D xs ys zs e f h =
-    run_then (gained w bits D) 1 (w - 1) w xs ys zs
-    (e
-    ∙ run_same pixel_cells pixel_lawful (gains (around 0 w)) (gained w bits D) 0 xs (1 - 0)
-    (λ i l u vs a b. let z : i ≡ 0 = omega arith in rw z (ap (each add (pixels vs 0)) (sym (predicted_first w bits D (pixels vs) h)))))
-    (f
-    ∙ run_same pixel_cells pixel_lawful (gains (around 1 w)) (gained w bits D) 1 ys (w - 1)
-    (λ i l u vs a b. ap (each add (pixels vs i)) (sym (predicted_left w bits D (pixels vs) i l (omega arith)))))
-    (omega arith)
-
--- its part of the picture, which starts with it, comes back as ys
 module _ (w bits : ℕ) (D : Picture) where
+  -- a pixel off the first
+  pub gained_left : (p : ℕ → Pixel) (i : ℕ) → 1 ≤ i → i < w → each add (p i) (p (i - 1)) ≡ gained w bits D p i
+  unfolding gained
+  gained_left p i l u = ap (each add (p i)) (sym (predicted_left w bits D p i l u))
+
+  -- the first pixel, then the others
+  pub first_row : (xs ys zs : List ℕ) (v : Pixel) → ys ≡ put_pixel xs 0 v → v ≡ each add (pixels xs 0) black → zs ≡ run pixel_cells (gained w bits D) 1 (w - 1) ys → 1 ≤ w
+      → zs ≡ run pixel_cells (gained w bits D) 0 w xs
+  unfolding run gained
+  first_row xs ys zs v e q r h =
+      let b : v ≡ gained w bits D (pixels xs) 0 = q ∙ ap (each add (pixels xs 0)) (sym (predicted_first w bits D (pixels xs) h)) in
+      run_then (gained w bits D) 1 (w - 1) w xs ys zs (e ∙ ap (put_pixel xs 0) b) r (omega arith)
+
+  -- its part of the picture, which starts with it, comes back as ys
   gained_first : (p q : ℕ → Pixel) (i : ℕ) → i < w → ((j : ℕ) → j < w → p j ≡ q j) → gained w bits D p i ≡ gained w bits D q i
-  unfolding gained predict
+  unfolding gained
   gained_first p q i l agree = go (ℕ_discrete i 0)
     where
       go : Dec (i ≡ 0) → each add (p i) (predicted w bits D p (i % w) (i / w)) ≡ each add (q i) (predicted w bits D q (i % w) (i / w))

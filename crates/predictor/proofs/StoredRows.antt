@@ -5,14 +5,13 @@ use Rattle.format.specs.declared.Pixel.{Pixel}
 use Rattle.format.specs.Byte.{sub}
 use Rattle.format.specs.Pixel.{each, black}
 use Rattle.format.specs.Picture.{Picture, pixels, ceiling}
-use Rattle.format.specs.Predictor.{predict, residuals}
+use Rattle.format.specs.Predictor.{residuals}
 use Rattle.format.proofs.Predictor.{row_above}
 use Rattle.pixel.specs.Cells.{pixel_cells, put_pixel, run, given}
 use Rattle.pixel.specs.Held.{HoldsRow}
-use Rattle.pixel.proofs.Given.{given_same}
 use Rattle.pixel.proofs.Held.{held_run}
 use Rattle.pixel.proofs.Rows.{run_then}
-use Rattle.predictor.specs.Row.{residual, row_predicted, left_residual}
+use Rattle.predictor.specs.Row.{residual, row_predicted}
 use Rattle.predictor.proofs.Rows.{predicted_first, predicted_left, row-predicted}
 
 -- row 0
@@ -21,21 +20,16 @@ module _ (w bits : ℕ) (D f : Picture) (row : List ℕ) (wide : 1 ≤ w) (holds
   at : (x : ℕ) → x < w → pixels row x ≡ f x
   at x u = holds x u ∙ rw (zero-mul, zero-add)
 
-  first_black : each sub (pixels row 0) black ≡ residuals w bits D f 0
-  unfolding residuals predict
-  first_black = cc (at 0 wide, predicted_first w bits D f wide)
+  pub lost_left : (x : ℕ) → 1 ≤ x → x < w → each sub (pixels row x) (pixels row (x - 1)) ≡ residuals w bits D f x
+  unfolding residuals
+  lost_left x l u = cc (at x u, at (x - 1) (omega arith), predicted_left w bits D f x l u)
 
-  others_left : (x : ℕ) → 1 ≤ x → x < w → left_residual (pixels row) x ≡ residuals w bits D f x
-  unfolding residuals predict
-  others_left x l u = cc (at x u, at (x - 1) (omega arith), predicted_left w bits D f x l u)
-
-  pub stored_first_row : (xs ys zs : List ℕ) (v : Pixel) → ys ≡ put_pixel xs 0 v → v ≡ each sub (pixels row 0) black → zs ≡ run pixel_cells (given (left_residual (pixels row))) 1 (w - 1) ys
+  pub stored_first_row : (xs ys zs : List ℕ) (v : Pixel) → ys ≡ put_pixel xs 0 v → v ≡ each sub (pixels row 0) black → zs ≡ run pixel_cells (given (residuals w bits D f)) 1 (w - 1) ys
       → 4 * w ≤ length xs → HoldsRow (residuals w bits D f) 0 w zs
-  unfolding run given
+  unfolding run given residuals
   stored_first_row xs ys zs v e q r l =
-      let first : ys ≡ run pixel_cells (given (residuals w bits D f)) 0 (1 - 0) xs = e ∙ ap (put_pixel xs 0) (q ∙ first_black) in
-      let others = r ∙ given_same (left_residual (pixels row)) (residuals w bits D f) 1 ys (w - 1) (λ x a b. others_left x a (omega arith)) in
-      held_run (given (residuals w bits D f)) (residuals w bits D f) 0 w xs zs (run_then (given (residuals w bits D f)) 1 (w - 1) w xs ys zs first others (omega arith))
+      let b : v ≡ residuals w bits D f 0 = q ∙ cc (at 0 wide, predicted_first w bits D f wide) in
+      held_run (given (residuals w bits D f)) (residuals w bits D f) 0 w xs zs (run_then (given (residuals w bits D f)) 1 (w - 1) w xs ys zs (e ∙ ap (put_pixel xs 0) b) r (omega arith))
       (λ p x u m. rw (zero-mul, zero-add))
       l
 

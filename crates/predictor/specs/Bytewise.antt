@@ -3,7 +3,7 @@ use Rattle.std.specs.Prelude.{◌≡◌, ℕ, ◌+◌, ◌-◌, [], ◌∷◌, s
 use Rattle.format.specs.Byte.{add, sub, avg, clamp_full, clamp_half}
 use Rattle.pixel.specs.Cells.{Rule}
 
--- the mode goes channel by channel
+-- the mode goes channel by channel; it is a const parameter, so that no type holds this
 pub record Channelwise (m : ℕ) : Type 0 where
   pub not_black : m ≡ 0 → ⊥
   pub not_select : m ≡ 11 → ⊥

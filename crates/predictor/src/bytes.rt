@@ -8,6 +8,7 @@ use pixel::byte::{average2, average4, clamp_add_subtract_full, clamp_add_subtrac
 
 // Of modes 0 and 11, which do not go channel by channel, it is 0.
 #[inline(always)]
+#[tactic(auto, unfolding(crate::specs::Bytewise::predict_byte))]
 pub fn predict_byte(mode: u8, l: u8, t: u8, tr: u8, tl: u8) -> u8
     ensures { result ≡ predict_byte mode l t tr tl }
 {
@@ -32,8 +33,9 @@ pub fn predict_byte(mode: u8, l: u8, t: u8, tr: u8, tl: u8) -> u8
 
 // The prediction of byte i of `rows`, which has `stride` bytes a row.
 #[inline(always)]
+#[tactic(auto, unfolding(crate::specs::Bytewise::byte_around))]
 pub fn byte_around<const MODE: u8>(rows: &[u8], stride: usize, i: usize) -> u8
-    requires { (8 ≤ stride) × (stride + 4 ≤ i) × (i < length rows.now) }
+    requires { (4 ≤ stride) × (stride + 4 ≤ i) × (i < length rows.now) }
     ensures { result ≡ byte_around MODE stride (byte_at rows.now) i }
 {
     predict_byte(

@@ -8,6 +8,7 @@ use pixel::pixel::{BLACK, select};
 
 // Inlined where the mode is a constant.
 #[inline(always)]
+#[tactic(auto, unfolding(format::specs::Predictor::predict))]
 pub fn predict_pixel(mode: u8, l: Pixel, t: Pixel, tr: Pixel, tl: Pixel) -> Pixel
     ensures { result ≡ predict mode l t tr tl }
 {

@@ -1,47 +1,49 @@
--- One record undone row by row. s is the record, ds the data.
-use Rattle.std.specs.Prelude.{List, ℕ, ◌-◌, ◌*◌, length}
-use Rattle.format.specs.declared.Step.{Step}
+-- One record undone row by row. r is the record, with its data.
+use Rattle.std.specs.Prelude.{Option, Some, None, List, ◌≡◌, ℕ, ◌-◌, ◌*◌}
 use Rattle.format.specs.declared.Pixel.{Pixel}
 use Rattle.format.specs.Picture.{Picture, pixels, written}
-use Rattle.format.specs.Sizes.{Sized, Holds}
-use Rattle.format.specs.ValidStep.{ValidStep}
+use Rattle.format.specs.Sizes.{Holds}
 use Rattle.format.specs.Predictor.{gained}
 use Rattle.format.specs.Color.{inverse_color}
 use Rattle.format.specs.SubtractGreen.{add_green}
-use Rattle.format.specs.ColorTable.{unpacked}
+use Rattle.format.specs.ColorTable.{per_pixel, entry, unpacked}
 use Rattle.format.specs.Chain.{by_kind}
 use Rattle.format.specs.Stages.{part_of, backward}
 use Rattle.pixel.specs.Cells.{Rule, pixel_cells, run, given}
+use Rattle.color_table.specs.Table.{ColumnsOf}
 use Rattle.color.specs.Row.{pointwise, everywhere, in_picture}
-use Rattle.chain.specs.declared.Chain.{Chain}
-use Rattle.chain.specs.Valid.{steps_of}
+use Rattle.chain.specs.declared.record.Record.{Record}
 
--- a record of a valid chain, and a buffer that has room for its picture, h rows
-pub record Ready (s : Step) (h : ℕ) (ds xs : List ℕ) : Type 0 where
-  pub sized : Sized s.width h
-  pub valid : ValidStep s h (length ds)
-  pub room : Holds s.width h xs
+-- room for its picture in a buffer
+abbrev pub HasRoom : Record → List ℕ → Type 0
+HasRoom r xs = Holds r.step.width r.height xs
+
+-- c are the columns of a table's entries; another record has none
+pub record ColumnsFor (r : Record) (c : Option (List ℕ)) : Type 0 where
+  pub some : (xs : List ℕ) → c ≡ Some xs → r.step.kind ≡ 3
+  pub made : (xs : List ℕ) → c ≡ Some xs
+      → ColumnsOf (per_pixel r.step.size) (entry r.step.size (part_of r.step r.«data».now)) xs
+  pub none : c ≡ None → r.step.kind ≡ 3 → ⊥
 
 -- how a row's pixels are rebuilt in order, where f is the buffer before the row: a table's row is given by its packed
 -- pixels there
-unfoldable pub row_rule : Step → List ℕ → Picture → Rule Pixel
-row_rule s ds f =
-    let d = part_of s ds in
+unfoldable pub row_rule : Record → Picture → Rule Pixel
+row_rule r f =
+    let s = r.step in
+    let d = part_of s r.«data».now in
     by_kind s.kind (gained s.width s.bits d) (pointwise (in_picture inverse_color s.width s.bits d))
     (pointwise (everywhere add_green)) (given (unpacked s.width s.size d f))
 
 -- the rows from a up to b rebuilt
-abbrev pub rows_rebuilt : Step → List ℕ → ℕ → ℕ → List ℕ → List ℕ
-rows_rebuilt s ds a b xs = run pixel_cells (row_rule s ds (pixels xs)) (a * s.width) (b * s.width - a * s.width) xs
+abbrev pub rows_rebuilt : Record → ℕ → ℕ → List ℕ → List ℕ
+rows_rebuilt r a b xs =
+    let w = r.step.width in
+    run pixel_cells (row_rule r (pixels xs)) (a * w) (b * w - a * w) xs
 
 -- row y rebuilt
-abbrev pub row_rebuilt : Step → List ℕ → ℕ → List ℕ → List ℕ
-row_rebuilt s ds y xs = run pixel_cells (row_rule s ds (pixels xs)) (y * s.width) s.width xs
+abbrev pub row_rebuilt : Record → ℕ → List ℕ → List ℕ
+row_rebuilt r y xs = run pixel_cells (row_rule r (pixels xs)) (y * r.step.width) r.step.width xs
 
 -- the whole record undone
-abbrev pub undone : Step → ℕ → List ℕ → List ℕ → List ℕ
-undone s h ds xs = written (h * s.width) (backward s h ds (pixels xs)) xs
-
--- record k of a chain undone
-unfoldable pub record_undone : Chain → ℕ → List ℕ → List ℕ → List ℕ
-record_undone c k ds xs = undone (steps_of c k) c.height ds xs
+abbrev pub undone : Record → List ℕ → List ℕ
+undone r xs = written (r.height * r.step.width) (backward r.step r.height r.«data».now (pixels xs)) xs

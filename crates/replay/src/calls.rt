@@ -1,35 +1,35 @@
 // A call of `letchwater` on a chain: the number, and every byte of the buffer that it writes.
-use crate::case::Call;
-use crate::comparison::Comparison;
+use crate::comparison::Compared;
+use crate::stored::Stored;
 use format::Refusal;
-use letchwater::{letchwater_rebuild, letchwater_store, number};
+use letchwater::number;
 
-// Nothing is undone here: storing has its own cases.
-fn compared(c: Call, outcome: Result<(), Refusal>, buffer: &[u8], output: &[u8]) -> Comparison {
-    let answer = number(outcome);
+fn compared(outcome: Result<(), Refusal>, buffer: &[u8], answer: u32, output: &[u8]) -> Compared {
+    let refused = outcome.is_err();
     let same = *buffer == *output;
-    Comparison::not_undone(answer == c.answer && same, answer != 0)
+    Compared {
+        same: number(outcome) == answer && same,
+        refused,
+    }
 }
 
 pub fn replay_rebuild(
-    c: Call,
-    chain: &[u8],
-    data: &[u8],
+    stored: Stored<'_>,
     image: &mut [u8],
+    answer: u32,
     output: &[u8],
-) -> Comparison {
-    let outcome = letchwater_rebuild(c.width, c.height, chain, data, image);
-    compared(c, outcome, image, output)
+) -> Compared {
+    let outcome = stored.rebuild(image);
+    compared(outcome, image, answer, output)
 }
 
 pub fn replay_store(
-    c: Call,
-    chain: &[u8],
-    data: &[u8],
+    stored: Stored<'_>,
     picture: &[u8],
     strip: &mut [u8],
+    answer: u32,
     output: &[u8],
-) -> Comparison {
-    let outcome = letchwater_store(c.width, c.height, chain, data, picture, strip);
-    compared(c, outcome, strip, output)
+) -> Compared {
+    let outcome = stored.store(picture, strip);
+    compared(outcome, strip, answer, output)
 }

@@ -1,5 +1,5 @@
 // The header of a case, or a call of a list: 16 bytes, little-endian (oracle/src/list.rs).
-ghost use Rattle.std.specs.Prelude.{◌+◌, ◌<◌};
+ghost use Rattle.std.specs.Prelude.{◌+◌, ◌≤◌};
 
 use crate::failure::Failure;
 
@@ -50,16 +50,30 @@ pub struct Single {
     pub input_len: usize,
 }
 
+// A picture's size, and the lengths of the parts that follow: chain, data, input and output. Of a list of retouches
+// these two are picture and strip.
+#[derive(Clone, Copy)]
+pub struct OnChain {
+    pub width: u32,
+    pub height: u32,
+    pub chain_len: usize,
+    pub data_len: usize,
+    pub input_len: usize,
+    pub output_len: usize,
+}
+
 // A call of `letchwater` on a chain.
 #[derive(Clone, Copy)]
 pub struct Call {
     pub answer: u32,
-    pub chain_len: usize,
-    pub width: u32,
-    pub height: u32,
-    pub data_len: usize,
-    pub output_len: usize,
-    pub input_len: usize,
+    pub parts: OnChain,
+}
+
+// A list of retouches.
+#[derive(Clone, Copy)]
+pub struct Retouches {
+    pub calls: u8,
+    pub parts: OnChain,
 }
 
 // A list of reports.
@@ -71,41 +85,24 @@ pub struct Reports {
 }
 
 fn u16_at(header: &[u8; 16], at: usize) -> u16
-    requires { at + 1 < 16 }
+    requires { at + 2 ≤ 16 }
 {
-    u16::from_le_bytes([header[at], header[at + 1]])
+    u16::from_le_bytes(*header[at..].first_chunk().unwrap())
 }
 
 pub fn u32_at(header: &[u8; 16], at: usize) -> u32
-    requires { at + 3 < 16 }
+    requires { at + 4 ≤ 16 }
 {
-    u32::from_le_bytes([header[at], header[at + 1], header[at + 2], header[at + 3]])
+    u32::from_le_bytes(*header[at..].first_chunk().unwrap())
 }
 
 impl From<&[u8; 16]> for Single {
     fn from(header: &[u8; 16]) -> Single {
-        let [
-            kind,
-            bits,
-            size,
-            more,
-            _,
-            _,
-            _,
-            _,
-            length,
-            a,
-            b,
-            c,
-            _,
-            _,
-            _,
-            _,
-        ] = *header;
+        let mut record = [0; 16];
+        record[..4].copy_from_slice(&header[..4]);
+        record[8..12].copy_from_slice(&header[8..12]);
         Single {
-            record: [
-                kind, bits, size, more, 0, 0, 0, 0, length, a, b, c, 0, 0, 0, 0,
-            ],
+            record,
             size: u16_at(header, 2),
             width: u16_at(header, 4) as u32,
             height: u16_at(header, 6) as u32,
@@ -115,16 +112,33 @@ impl From<&[u8; 16]> for Single {
     }
 }
 
+impl From<&[u8; 16]> for OnChain {
+    fn from(header: &[u8; 16]) -> OnChain {
+        OnChain {
+            width: u16_at(header, 4) as u32,
+            height: u16_at(header, 6) as u32,
+            chain_len: u16_at(header, 2) as usize,
+            data_len: u16_at(header, 8) as usize,
+            input_len: u32_at(header, 12) as usize,
+            output_len: u16_at(header, 10) as usize,
+        }
+    }
+}
+
 impl From<&[u8; 16]> for Call {
     fn from(header: &[u8; 16]) -> Call {
         Call {
             answer: header[1] as u32,
-            chain_len: u16_at(header, 2) as usize,
-            width: u16_at(header, 4) as u32,
-            height: u16_at(header, 6) as u32,
-            data_len: u16_at(header, 8) as usize,
-            output_len: u16_at(header, 10) as usize,
-            input_len: u32_at(header, 12) as usize,
+            parts: header.into(),
+        }
+    }
+}
+
+impl From<&[u8; 16]> for Retouches {
+    fn from(header: &[u8; 16]) -> Retouches {
+        Retouches {
+            calls: header[1],
+            parts: header.into(),
         }
     }
 }

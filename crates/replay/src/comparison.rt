@@ -1,29 +1,37 @@
 // What comparing a case found.
 
-// Whether the calls gave what the oracle gave, whether undoing them gives what they had, and whether one refused.
+// Of calls beside the oracle's: whether they gave the same, and whether one refused.
 #[derive(Clone, Copy)]
-pub struct Comparison {
+pub struct Compared {
     pub same: bool,
-    pub back: bool,
     pub refused: bool,
 }
 
-impl Comparison {
-    // Of calls that are not undone.
-    pub fn not_undone(same: bool, refused: bool) -> Comparison {
-        Comparison {
-            same,
-            back: true,
-            refused,
-        }
-    }
+pub const NO_CALLS: Compared = Compared {
+    same: true,
+    refused: false,
+};
 
-    // Of two in turn.
-    pub fn and(self, next: Comparison) -> Comparison {
-        Comparison {
+impl Compared {
+    // Of calls in turn.
+    pub fn and(self, next: Compared) -> Compared {
+        Compared {
             same: self.same & next.same,
-            back: self.back & next.back,
             refused: self.refused | next.refused,
         }
+    }
+}
+
+// `back` is whether undoing the calls gives what they had; none where they are not undone.
+#[derive(Clone, Copy)]
+pub struct Comparison {
+    pub calls: Compared,
+    pub back: Option<bool>,
+}
+
+// Of calls that are not undone.
+impl From<Compared> for Comparison {
+    fn from(calls: Compared) -> Comparison {
+        Comparison { calls, back: None }
     }
 }

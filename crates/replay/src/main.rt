@@ -12,6 +12,7 @@ mod parts;
 mod reports;
 mod retouches;
 mod sizes;
+mod stored;
 mod tally;
 mod transforms;
 
@@ -20,7 +21,7 @@ use failure::Failure;
 use list::replay_next;
 use std::io;
 use std::io::BufRead;
-use tally::{NONE, Tally, count, print};
+use tally::{Tally, print};
 
 // A proved loop has to end, and nothing says that an input does: the turns are counted, up to a number that no run
 // reaches.
@@ -29,13 +30,13 @@ fn replay_all(list: &mut impl BufRead, tallies: &mut [Tally; KINDS]) -> Result<(
         let Some((kind, found)) = replay_next(list)? else {
             break;
         };
-        count(tallies, kind, found);
+        tallies[kind as usize].add(found);
     }
     Ok(())
 }
 
 fn main(rt: HostRuntime) -> io::Result<()> {
-    let mut tallies = [NONE; KINDS];
+    let mut tallies = [Tally::default(); KINDS];
     let mut list = rt.reader();
     match replay_all(&mut list, &mut tallies) {
         Ok(()) => {}

@@ -1,5 +1,5 @@
 // Parts of a case, read from the list.
-use crate::comparison::Comparison;
+use crate::comparison::Compared;
 use crate::failure::Failure;
 use std::io::Read;
 
@@ -12,17 +12,17 @@ pub fn part<'a>(
     buffer: &'a mut [u8; MOST],
     n: usize,
 ) -> Result<&'a mut [u8], Failure> {
-    if MOST < n {
-        return Err(Failure::Malformed);
-    }
-    let part = &mut buffer[..n];
+    let part = buffer.get_mut(..n).ok_or(Failure::Malformed)?;
     list.read_exact(part)?;
     Ok(part)
 }
 
 // Every byte of the buffer beside the part that follows in the list.
-pub fn compare_part(list: &mut impl Read, buffer: &[u8]) -> Result<Comparison, Failure> {
+pub fn compare_part(list: &mut impl Read, buffer: &[u8]) -> Result<Compared, Failure> {
     let mut after = [0u8; MOST];
     let after = part(list, &mut after, buffer.len())?;
-    Ok(Comparison::not_undone(*buffer == *after, false))
+    Ok(Compared {
+        same: *buffer == *after,
+        refused: false,
+    })
 }

@@ -1,6 +1,6 @@
 // A list of reports, each on the counters that the last one left: every answer.
 use crate::case::u32_at;
-use crate::comparison::Comparison;
+use crate::comparison::{Compared, NO_CALLS};
 use crate::failure::Failure;
 use crate::parts::{MOST, part};
 use letchwater::{letchwater_report, number};
@@ -12,19 +12,22 @@ fn replay_report(
     list: &mut impl Read,
     colors: &[u8],
     counters: &mut [u8],
-) -> Result<Comparison, Failure> {
+) -> Result<Compared, Failure> {
     let mut call = [0u8; 16];
     list.read_exact(&mut call)?;
     let mut picture = [0u8; MOST];
     let picture = part(list, &mut picture, u32_at(&call, 8) as usize)?;
-    let answer = number(letchwater_report(
+    let outcome = letchwater_report(
         u32_at(&call, 0),
         u32_at(&call, 4),
         picture,
         colors,
         counters,
-    ));
-    Ok(Comparison::not_undone(answer == u32_at(&call, 12), answer != 0))
+    );
+    Ok(Compared {
+        same: number(outcome) == u32_at(&call, 12),
+        refused: outcome.is_err(),
+    })
 }
 
 pub fn replay_reports(
@@ -32,10 +35,8 @@ pub fn replay_reports(
     calls: u8,
     colors: &[u8],
     counters: &mut [u8],
-) -> Result<Comparison, Failure> {
-    let mut so_far = Comparison::not_undone(true, false);
-    for _ in 0..calls {
-        so_far = so_far.and(replay_report(list, colors, counters)?);
-    }
-    Ok(so_far)
+) -> Result<Compared, Failure> {
+    (0..calls).try_fold(NO_CALLS, |so_far: Compared, _| {
+        Ok(so_far.and(replay_report(list, colors, counters)?))
+    })
 }

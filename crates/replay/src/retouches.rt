@@ -1,26 +1,25 @@
 // A list of retouches, each on what the last one left: every answer.
-use crate::case::{Call, u32_at};
-use crate::comparison::Comparison;
+use crate::case::u32_at;
+use crate::comparison::{Compared, NO_CALLS};
 use crate::failure::Failure;
+use crate::stored::Stored;
 use letchwater::{letchwater_retouch, retouch_number};
 use std::io::Read;
 
 // One call, which follows in the list in 16 bytes: column, row, color, answer.
 fn replay_retouch(
     list: &mut impl Read,
-    c: Call,
-    chain: &[u8],
-    data: &[u8],
+    stored: Stored<'_>,
     picture: &mut [u8],
     strip: &mut [u8],
-) -> Result<Comparison, Failure> {
+) -> Result<Compared, Failure> {
     let mut call = [0u8; 16];
     list.read_exact(&mut call)?;
-    let answer = retouch_number(letchwater_retouch(
-        c.width,
-        c.height,
-        chain,
-        data,
+    let outcome = letchwater_retouch(
+        stored.width,
+        stored.height,
+        stored.chain,
+        stored.data,
         picture,
         strip,
         u32_at(&call, 0),
@@ -29,22 +28,21 @@ fn replay_retouch(
         call[9],
         call[10],
         call[11],
-    ));
-    Ok(Comparison::not_undone(answer == u32_at(&call, 12), answer < 256))
+    );
+    Ok(Compared {
+        same: retouch_number(outcome) == u32_at(&call, 12),
+        refused: outcome.is_err(),
+    })
 }
 
-// The header has how many calls there are where other calls have their answer.
 pub fn replay_retouches(
     list: &mut impl Read,
-    c: Call,
-    chain: &[u8],
-    data: &[u8],
+    calls: u8,
+    stored: Stored<'_>,
     picture: &mut [u8],
     strip: &mut [u8],
-) -> Result<Comparison, Failure> {
-    let mut so_far = Comparison::not_undone(true, false);
-    for _ in 0..c.answer {
-        so_far = so_far.and(replay_retouch(list, c, chain, data, picture, strip)?);
-    }
-    Ok(so_far)
+) -> Result<Compared, Failure> {
+    (0..calls).try_fold(NO_CALLS, |so_far: Compared, _| {
+        Ok(so_far.and(replay_retouch(list, stored, picture, strip)?))
+    })
 }

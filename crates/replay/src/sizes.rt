@@ -2,7 +2,7 @@
 
 // The bytes of a picture; none where a side is out of bounds.
 pub fn picture_len(width: u32, height: u32) -> Option<usize> {
-    if width < 1 || 16384 < width || height < 1 || 16384 < height {
+    if !(1..=16384).contains(&width) || !(1..=16384).contains(&height) {
         return None;
     }
     Some(4 * (height as usize * width as usize))

@@ -1,9 +1,9 @@
 // Counts of each kind of case, and the lines that give them.
-use crate::case::{KINDS, Kind};
+use crate::case::KINDS;
 use crate::comparison::Comparison;
 use std::io;
 
-#[derive(Clone, Copy)]
+#[derive(Clone, Copy, Default)]
 pub struct Tally {
     cases: u64,
     differences: u64,
@@ -11,62 +11,50 @@ pub struct Tally {
     refusals: u64,
 }
 
-pub const NONE: Tally = Tally {
-    cases: 0,
-    differences: 0,
-    lost: 0,
-    refusals: 0,
-};
-
 impl Tally {
     // One case more. No run reaches the number at which a count wraps.
-    fn add(&mut self, found: Comparison) {
+    pub fn add(&mut self, found: Comparison) {
         self.cases = self.cases.wrapping_add(1);
-        self.differences = self.differences.wrapping_add(u64::from(!found.same));
-        self.lost = self.lost.wrapping_add(u64::from(!found.back));
-        self.refusals = self.refusals.wrapping_add(u64::from(found.refused));
+        self.differences = self.differences.wrapping_add(u64::from(!found.calls.same));
+        self.lost = self.lost.wrapping_add(u64::from(found.back == Some(false)));
+        self.refusals = self.refusals.wrapping_add(u64::from(found.calls.refused));
     }
 
-    fn accepted(&self) -> u64 {
-        self.cases.wrapping_sub(self.refusals)
+    fn print_transform(&self, rt: &impl Print, name: &str) -> io::Result<()> {
+        println!(rt;
+            "{name}: {} cases, {} differences, {} not given back",
+            self.cases, self.differences, self.lost
+        )
     }
-}
 
-pub fn count(tallies: &mut [Tally; KINDS], kind: Kind, found: Comparison) {
-    tallies[kind as usize].add(found);
-}
+    // Of a call, which is not undone: what its cases have in common is `accepted` and `refused`.
+    fn print_call(
+        &self,
+        rt: &impl Print,
+        name: &str,
+        accepted: &str,
+        refused: &str,
+    ) -> io::Result<()> {
+        println!(rt;
+            "{name}: {} cases, {} differences",
+            self.cases, self.differences
+        )?;
+        self.print_refused(rt, name, accepted, refused)
+    }
 
-fn print_transform(rt: &impl Print, name: &str, t: Tally) -> io::Result<()> {
-    println!(rt;
-        "{name}: {} cases, {} differences, {} not given back",
-        t.cases, t.differences, t.lost
-    )
-}
-
-// Of a call, which is not undone: what its cases have in common is `accepted` and `refused`.
-fn print_call(
-    rt: &impl Print,
-    name: &str,
-    t: Tally,
-    accepted: &str,
-    refused: &str,
-) -> io::Result<()> {
-    println!(rt; "{name}: {} cases, {} differences", t.cases, t.differences)?;
-    print_refused(rt, name, t, accepted, refused)
-}
-
-fn print_refused(
-    rt: &impl Print,
-    name: &str,
-    t: Tally,
-    accepted: &str,
-    refused: &str,
-) -> io::Result<()> {
-    println!(rt;
-        "{name}: {} {accepted}, {} {refused}",
-        t.accepted(),
-        t.refusals
-    )
+    fn print_refused(
+        &self,
+        rt: &impl Print,
+        name: &str,
+        accepted: &str,
+        refused: &str,
+    ) -> io::Result<()> {
+        println!(rt;
+            "{name}: {} {accepted}, {} {refused}",
+            self.cases.wrapping_sub(self.refusals),
+            self.refusals
+        )
+    }
 }
 
 pub fn print(rt: &impl Print, tallies: &[Tally; KINDS]) -> io::Result<()> {
@@ -81,15 +69,15 @@ pub fn print(rt: &impl Print, tallies: &[Tally; KINDS]) -> io::Result<()> {
         retouches,
         reports,
     ] = *tallies;
-    print_transform(rt, "predictor", predictor)?;
-    print_transform(rt, "color", color)?;
-    print_transform(rt, "subtract green", green)?;
-    print_transform(rt, "color table", table)?;
-    print_refused(rt, "color table stored", table, "accepted", "refused")?;
-    print_transform(rt, "color map", map)?;
-    print_call(rt, "rebuild by a chain", rebuild, "accepted", "refused")?;
-    print_call(rt, "store by a chain", store, "accepted", "refused")?;
+    predictor.print_transform(rt, "predictor")?;
+    color.print_transform(rt, "color")?;
+    green.print_transform(rt, "subtract green")?;
+    table.print_transform(rt, "color table")?;
+    table.print_refused(rt, "color table stored", "accepted", "refused")?;
+    map.print_transform(rt, "color map")?;
+    rebuild.print_call(rt, "rebuild by a chain", "accepted", "refused")?;
+    store.print_call(rt, "store by a chain", "accepted", "refused")?;
     let (throughout, one) = ("accepted throughout", "with a refusal");
-    print_call(rt, "lists of retouches", retouches, throughout, one)?;
-    print_call(rt, "lists of reports", reports, throughout, one)
+    retouches.print_call(rt, "lists of retouches", throughout, one)?;
+    reports.print_call(rt, "lists of reports", throughout, one)
 }

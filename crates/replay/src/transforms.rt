@@ -1,31 +1,23 @@
 // A transform by itself, as a chain of one record: rebuilt from the input and compared with the output, then stored
 // back. `image` and `strip` have the output's length.
-ghost use Rattle.std.specs.Prelude.{◌*◌, ◌≤◌, length};
-
-use crate::case::Single;
-use crate::comparison::Comparison;
+use crate::comparison::{Compared, Comparison};
 use crate::entries::every_pixel_has_entry;
 use crate::failure::Failure;
 use crate::sizes::packed_len;
+use crate::stored::Stored;
 use format::Refusal;
-use letchwater::{
-    letchwater_adjust_color_map, letchwater_rebuild, letchwater_store,
-    letchwater_unadjust_color_map,
-};
+use letchwater::{letchwater_adjust_color_map, letchwater_unadjust_color_map};
 
-fn rebuilt(c: Single, data: &[u8], input: &[u8], output: &[u8], image: &mut [u8]) -> bool
-    requires { length input.now ≤ length image.old }
-{
-    image[..input.len()].copy_from_slice(input);
-    let accepted = letchwater_rebuild(c.width, c.height, &c.record, data, image).is_ok();
-    let same = *image == *output;
+// Whether the strip in the front of `buffer` rebuilds the picture.
+fn rebuilds(stored: Stored<'_>, buffer: &mut [u8], picture: &[u8]) -> bool {
+    let accepted = stored.rebuild(buffer).is_ok();
+    let same = *buffer == *picture;
     accepted && same
 }
 
 // The transforms that lose nothing: the strip has to be the input.
 pub fn replay_pixels(
-    c: Single,
-    data: &[u8],
+    stored: Stored<'_>,
     input: &[u8],
     output: &[u8],
     image: &mut [u8],
@@ -34,54 +26,48 @@ pub fn replay_pixels(
     if input.len() != image.len() {
         return Err(Failure::Malformed);
     }
-    let same = rebuilt(c, data, input, output, image);
-    let accepted = letchwater_store(c.width, c.height, &c.record, data, image, strip).is_ok();
+    image.copy_from_slice(input);
+    let same = rebuilds(stored, image, output);
+    let accepted = stored.store(image, strip).is_ok();
     let back = *strip == *input;
     Ok(Comparison {
-        same,
-        back: accepted && back,
-        refused: !accepted,
+        calls: Compared {
+            same,
+            refused: !accepted,
+        },
+        back: Some(accepted && back),
     })
 }
 
-// Stores `image` and rebuilds it in `strip`: the pictures have to be the same. The strips need not be, since a pixel
-// may have several indices. Where a pixel has no entry, and only there, the answer has to be 21.
-fn store_back(same: bool, c: Single, entries: &[u8], image: &[u8], strip: &mut [u8]) -> Comparison
-    requires { 4 * c.size ≤ length entries.now }
-{
-    let storable = every_pixel_has_entry(image, &entries[..4 * c.size as usize]);
-    let stored = letchwater_store(c.width, c.height, &c.record, entries, image, strip);
-    if let Err(refusal) = stored {
-        return Comparison {
-            same,
-            back: refusal == Refusal::NoEntry && !storable,
-            refused: true,
-        };
-    }
-    let again = letchwater_rebuild(c.width, c.height, &c.record, entries, strip).is_ok();
-    let back = *strip == *image;
-    Comparison {
-        same,
-        back: storable && again && back,
-        refused: false,
-    }
-}
-
+// Stored back, the strip need not be the input, since a pixel may have several indices: it has to rebuild the picture.
+// Where a pixel has no entry, and only there, the answer has to be 21.
 pub fn replay_color_table(
-    c: Single,
-    entries: &[u8],
+    stored: Stored<'_>,
+    size: usize,
     input: &[u8],
     output: &[u8],
     image: &mut [u8],
     strip: &mut [u8],
 ) -> Result<Comparison, Failure> {
-    let size = c.size as usize;
-    let packed = packed_len(c.width, c.height, size).ok_or(Failure::Malformed)?;
-    if entries.len() / 4 < size || input.len() != packed || image.len() < packed {
+    let packed = packed_len(stored.width, stored.height, size).ok_or(Failure::Malformed)?;
+    if stored.data.len() / 4 < size || input.len() != packed || image.len() < packed {
         return Err(Failure::Malformed);
     }
-    let same = rebuilt(c, entries, input, output, image);
-    Ok(store_back(same, c, entries, image, strip))
+    image[..packed].copy_from_slice(input);
+    let same = rebuilds(stored, image, output);
+    let storable = every_pixel_has_entry(image, &stored.data[..4 * size]);
+    let outcome = stored.store(image, strip);
+    let back = match outcome {
+        Ok(()) => storable && rebuilds(stored, strip, image),
+        Err(refusal) => !storable && refusal == Refusal::NoEntry,
+    };
+    Ok(Comparison {
+        calls: Compared {
+            same,
+            refused: outcome.is_err(),
+        },
+        back: Some(back),
+    })
 }
 
 pub fn replay_color_map(
@@ -98,8 +84,10 @@ pub fn replay_color_map(
     let unadjusted = letchwater_unadjust_color_map(image).is_ok();
     let back = *image == *input;
     Ok(Comparison {
-        same: adjusted && same,
-        back: unadjusted && back,
-        refused: false,
+        calls: Compared {
+            same: adjusted && same,
+            refused: false,
+        },
+        back: Some(unadjusted && back),
     })
 }

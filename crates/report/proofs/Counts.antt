@@ -11,27 +11,24 @@ use lib.ListN.{length, set, replicate, get_or-replicate}
 use lib.Seq.{get_or-set_same, get_or-set_other}
 use Rattle.format.specs.Indices.{how_many}
 use Rattle.format.specs.declared.Pixel.{Pixel}
-use Rattle.format.specs.Picture.{Picture}
+use Rattle.format.specs.Picture.{Picture, pixels}
 use Rattle.format.specs.ColorTable.{index_of}
 use Rattle.format.proofs.Indices.{how_many_most, how_many_alike}
 use Rattle.format.proofs.ColorTable.{index_most}
 use Rattle.color_table.specs.OneOf.{EachOf}
 use Rattle.color_table.proofs.Index.{each_same}
 use Rattle.report.specs.Counts.{at, most_pixels, Counted}
+use Rattle.report.specs.Counting.{CountedIn}
+use Rattle.report.specs.declared.count.Counts.{Counts}
+use Rattle.report.specs.declared.count.Counting.{Counting}
 
 module _ (m : ℕ) (e f : Picture) where
   pub counted_none : m ≤ 256 → Counted m e 0 f (replicate 257 0)
   counted_none l k b = get_or-replicate 257 k 0 0 (omega arith)
 
-  -- a pixel's index, and room for n pixels more there
-  pub counted_room : (i n k : ℕ) (v : Pixel) (counts : List ℕ) → Counted m e i f counts → m ≤ 256 → k ≡ index_of m e v → i + n ≤ most_pixels
-      → (k ≤ 256) × (at counts k + n ≤ most_pixels)
-  counted_room i n k v counts h b p l =
-      let here : k ≤ m = rw p (index_most m e v) in
-      (omega arith, omega (arith, h k here, how_many_most i (λ q. eqb (index_of m e (f q)) k)))
-
   -- n pixels more that are v, which is found at k
-  pub counted_more : (i n k : ℕ) (v : Pixel) (counts ys : List ℕ) → Counted m e i f counts → length counts ≡ 257 → m ≤ 256 → k ≡ index_of m e v → ((q : ℕ) → i ≤ q → q < i + n → f q ≡ v)
+  pub counted_more : (i n k : ℕ) (v : Pixel) (counts ys : List ℕ) → Counted m e i f counts → length counts ≡ 257 → m ≤ 256
+      → k ≡ index_of m e v → ((q : ℕ) → i ≤ q → q < i + n → f q ≡ v)
       → ys ≡ set counts k (at counts k + n) → Counted m e (i + n) f ys
   counted_more i n k v counts ys h s b p all w j l = rw w (at_index (ℕ_discrete k j))
     where
@@ -51,13 +48,26 @@ module _ (m : ℕ) (e f : Picture) where
           let t = how_many_alike i n (λ q. eqb (index_of m e (f q)) j) false (alike false (ne_eqb k j q)) in
           rw (get_or-set_other counts k j (at counts k + n) 0 (λ z. q (sym z))) (omega arith)
 
-  -- pixels i to j, which are v
-  pub counted_run : (i j k : ℕ) (v : Pixel) (counts ys : List ℕ) → Counted m e i f counts → length counts ≡ 257 → m ≤ 256 → k ≡ index_of m e v → i ≤ j → EachOf v v f i (j - i)
-      → ys ≡ set counts k (at counts k + (j - i)) → Counted m e j f ys
-  counted_run i j k v counts ys h s b p l all w =
-      let t : i + (j - i) ≡ j = omega arith in
-      rw t at (counted_more i (j - i) k v counts ys h s b p (each_same v f i (j - i) all) w)
+-- the first i pixels are counted, and v is found at k
+module _ {t : Counting} {i : ℕ} {counts : Counts} (h : CountedIn t i counts) {k : ℕ} (v : Pixel)
+    (p : k ≡ index_of t.list.now.size (pixels t.list.now.entries.now) v) where
+  few : k ≤ t.list.now.size
+  few = rw p (index_most t.list.now.size (pixels t.list.now.entries.now) v)
 
--- one pixel
-pub one_same : (v : Pixel) (f : Picture) (i : ℕ) → v ≡ f i → (q : ℕ) → i ≤ q → q < i + 1 → f q ≡ v
-one_same v f i p q l u = let e : q ≡ i = omega arith in rw (e, p)
+  -- n pixels more have room there
+  pub counted_room : (n : ℕ) → i + n ≤ t.count → (k ≤ 256) × (at counts.numbers k + n ≤ most_pixels)
+  counted_room n l =
+      let b = how_many_most i (λ q. eqb (index_of t.list.now.size (pixels t.list.now.entries.now) (pixels t.picture.now q)) k) in
+      (omega (arith, few, t.list.now.table.most), omega (arith, b, h.numbers k few, t.few))
+
+  -- pixels i to j, which are v, are counted
+  pub counted_run : (j : ℕ) (ys : Counts) → i ≤ j → EachOf v v (pixels t.picture.now) i (j - i)
+      → ys.numbers ≡ set counts.numbers k (at counts.numbers k + (j - i)) → ys.size ≡ counts.size → CountedIn t j ys
+  counted_run j ys l all w s =
+      let n : i + (j - i) ≡ j = omega arith in
+      let e = pixels t.list.now.entries.now in
+      let f = pixels t.picture.now in
+      record {
+        size = s ∙ h.size;
+        numbers = rw n at (counted_more t.list.now.size e f i (j - i) k v _ _ h.numbers counts.full t.list.now.table.most p (each_same v f i (j - i) all) w);
+      }

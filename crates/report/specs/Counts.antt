@@ -1,12 +1,11 @@
 -- Counts of a picture's pixels, and what becomes of them and of the counters.
-use Rattle.std.specs.Prelude.{Result, Bool, List, ◌≡◌, ℕ, ◌+◌, ◌^◌, ◌<◌, ◌≤◌, eqb, ltb, get_or, if◌then◌else◌}
+use Rattle.std.specs.Prelude.{Bool, List, ◌≡◌, ℕ, ◌+◌, ◌^◌, ◌<◌, ◌≤◌, eqb, ltb, get_or, if◌then◌else◌}
 use Rattle.format.specs.Choice.{every}
 use Rattle.format.specs.Indices.{how_many}
 use Rattle.format.specs.Picture.{Picture}
 use Rattle.format.specs.ColorTable.{index_of}
-use Rattle.format.specs.declared.Refusal.{Refusal}
 use Rattle.format.specs.declared.Refusal.TheVariants.{FullCounter}
-use Rattle.format.specs.Refusals.{number, returned, accepted, ◌unless◌}
+use Rattle.format.specs.Refusals.{number, accepted, ◌unless◌}
 use Rattle.format.specs.Report.{counter, written_counters}
 
 -- number k of a list
@@ -37,7 +36,6 @@ sums_answer n held counts = number FullCounter unless sums_fit n held counts
 abbrev pub Sums : ℕ → (ℕ → ℕ) → List ℕ → List ℕ → Type 0
 Sums n held counts sums = (k : ℕ) → k < n → (at sums k ≡ sum_at held counts k) × (sum_at held counts k < 2 ^ 64)
 
--- the answer where counts are added to the first n counters, and the counters that are left
-pub record AddedTo {A : Type 0} (n : ℕ) (counts counters : List ℕ) (r : Result A Refusal) (after : List ℕ) : Type 0 where
-  pub answer : returned r ≡ sums_answer n (counter counters) counts
-  pub left : after ≡ (if accepted (returned r) then written_counters n (sum_at (counter counters) counts) counters else counters)
+-- the counters that are left where counts are added to the first n of them, by the answer
+abbrev pub counters_left : ℕ → List ℕ → List ℕ → ℕ → List ℕ
+counters_left n counts counters answer = if accepted answer then written_counters n (sum_at (counter counters) counts) counters else counters

@@ -9,6 +9,7 @@ ghost use Rattle.report.specs.Listed.{list_answer, ListOf};
 use color_map::refused_length;
 use color_table::lookup::Lookup;
 use format::Refusal;
+use pixel::entries::Entries;
 use pixel::word::Word;
 
 // The index of w, or the list's size.
@@ -35,7 +36,10 @@ pub fn list_of(colors: &[u8]) -> Result<Lookup<'_>, Refusal>
     if refused_length(colors.len()) {
         return Err(Refusal::ColorList);
     }
-    let list = Lookup::new(colors, colors.len() / 4);
+    let list = Lookup::new(&Entries {
+        bytes: colors,
+        size: colors.len() / 4,
+    });
     if !distinct(&list) {
         return Err(Refusal::ColorList);
     }

@@ -8,18 +8,22 @@ use color_table::groups::pass;
 use color_table::lookup::Lookup;
 use pixel::word::Word;
 
-// How many pixels were found at each index of a list of colors, and at none of them, which is the list's size.
+// How many pixels were found at each index of a list of colors, and at none of them, which is the list's size: the
+// first `size` numbers.
 #[derive(Clone, Copy)]
 pub struct Counts {
     pub numbers: [u64; 257],
+    pub size: usize,
     pub ghost full: { length numbers ≡ 257 },
+    pub ghost few: { size ≤ 257 },
 }
 
 impl Counts {
     // n pixels more at index k.
     fn add(&mut self, k: usize, n: usize)
         requires { (k ≤ 256) × (at self.old.numbers k + n ≤ most_pixels) }
-        ensures { self.new.numbers ≡ set self.old.numbers k (at self.old.numbers k + n) }
+        ensures added { self.new.numbers ≡ set self.old.numbers k (at self.old.numbers k + n) }
+        ensures size { self.new.size ≡ self.old.size }
     {
         self.numbers[k] += n as u64;
     }
@@ -40,8 +44,8 @@ impl<'a> Counting<'a> {
 
     // Pixels `from` up to `to`, one by one.
     fn each(&self, counts: &mut Counts, from: usize, to: usize)
-        requires from_le_to { (from ≤ to) × (to ≤ self.now.count) }
-        requires counted_in { CountedIn self.now from counts.old }
+        requires inside { (from ≤ to) × (to ≤ self.now.count) }
+        requires counted { CountedIn self.now from counts.old }
         ensures { CountedIn self.now to counts.new }
     {
         for i in from..to {
@@ -53,7 +57,7 @@ impl<'a> Counting<'a> {
     // returns the pixel after these.
     fn run(&self, counts: &mut Counts, i: usize) -> usize
         requires start { Start self.now i × (i < self.now.count) }
-        requires counted_in { CountedIn self.now i counts.old }
+        requires counted { CountedIn self.now i counts.old }
         ensures { (i < result) × Start self.now result × CountedIn self.now result counts.new }
     {
         let w = Word::at(self.picture, i);
@@ -68,7 +72,10 @@ impl<'a> Counting<'a> {
     pub fn counts(&self) -> Counts
         ensures { CountedIn self.now self.now.count result }
     {
-        let mut counts = Counts { numbers: [0; 257] };
+        let mut counts = Counts {
+            numbers: [0; 257],
+            size: self.list.size + 1,
+        };
         let mut i = 0;
         // A turn goes to the end of a run.
         while i < self.count {

@@ -2,7 +2,7 @@
 ghost use Rattle.std.specs.Prelude.{IfOk, ◌≡◌, ◌+◌, ◌*◌, ◌/◌, ◌%◌, ◌^◌, ◌<◌, ◌≤◌, length};
 ghost use Rattle.format.specs.Refusals.{returned};
 ghost use Rattle.format.specs.Report.{counter, written_counters};
-ghost use Rattle.report.specs.Counts.{at, sums_answer, Sums, AddedTo};
+ghost use Rattle.report.specs.Counts.{at, sums_answer, counters_left, Sums};
 
 use crate::count::Counts;
 use format::Refusal;
@@ -13,62 +13,50 @@ fn counter_at(counters: &[u8], k: usize) -> u64
     requires { 8 * k + 8 ≤ length counters.now }
     ensures { result ≡ counter counters.now k }
 {
-    let j = 8 * k;
-    u64::from_le_bytes([
-        counters[j],
-        counters[j + 1],
-        counters[j + 2],
-        counters[j + 3],
-        counters[j + 4],
-        counters[j + 5],
-        counters[j + 6],
-        counters[j + 7],
-    ])
-}
-
-// Byte j of x, lowest first.
-fn byte_of(x: u64, j: usize) -> u8
-    requires { j < 8 }
-    ensures { result ≡ x / 256 ^ j % 256 }
-{
-    x.to_le_bytes()[j]
+    u64::from_le_bytes(*counters[8 * k..].first_chunk().unwrap())
 }
 
 impl Counts {
-    // The first n counts added to what the counters hold, where no sum passes 2^64 - 1.
-    #[tactic(auto, using(crate::proofs::Sums::sum_past))]
-    fn sums(&self, counters: &[u8], n: usize) -> Result<Counts, Refusal>
-        requires { (n ≤ 257) × (8 * n ≤ length counters.now) }
-        ensures refusal { returned result ≡ sums_answer n (counter counters.now) self.now.numbers }
-        ensures sums { IfOk result (λ r. Sums n (counter counters.now) self.now.numbers r.numbers) }
+    // The counts added to what the counters hold, where no sum passes 2^64 - 1.
+    #[tactic(auto, using(crate::proofs::Sums::sum_past, crate::proofs::Sums::sums_made))]
+    fn sums(&self, counters: &[u8]) -> Result<Counts, Refusal>
+        requires { 8 * self.now.size ≤ length counters.now }
+        ensures refusal { returned result ≡ sums_answer self.now.size (counter counters.now) self.now.numbers }
+        ensures sums { IfOk result (λ r. (r.size ≡ self.now.size)
+            × Sums self.now.size (counter counters.now) self.now.numbers r.numbers) }
     {
         let mut sums = [0u64; 257];
-        for k in 0..n {
-            // By `ok_or` and `?` the proof would need two facts more.
-            let Some(sum) = counter_at(counters, k).checked_add(self.numbers[k]) else {
-                return Err(Refusal::FullCounter);
-            };
-            sums[k] = sum;
+        // By `try_from_fn`, the numbers past the size would have to be answered too.
+        for k in 0..self.size {
+            sums[k] = counter_at(counters, k)
+                .checked_add(self.numbers[k])
+                .ok_or(Refusal::FullCounter)?;
         }
-        Ok(Counts { numbers: sums })
+        Ok(Counts {
+            numbers: sums,
+            size: self.size,
+        })
     }
 
-    // The first n as counters.
-    fn put(&self, counters: &mut [u8], n: usize)
-        requires { (n ≤ 257) × (8 * n ≤ length counters.old) }
-        ensures { counters.new ≡ written_counters n (at self.now.numbers) counters.old }
+    // The numbers as counters.
+    fn put(&self, counters: &mut [u8])
+        requires { 8 * self.now.size ≤ length counters.old }
+        ensures { counters.new ≡ written_counters self.now.size (at self.now.numbers) counters.old }
     {
-        replace(counters, 0, 8 * n, |_: &[u8], i: usize| {
-            byte_of(self.numbers[i / 8], i % 8)
+        replace(counters, 0, 8 * self.size, |_: &[u8], i: usize| {
+            self.numbers[i / 8].to_le_bytes()[i % 8]
         });
     }
 
-    // Test 24, then the first n counters: all sums are known before the first byte is written.
-    pub fn add_to(&self, counters: &mut [u8], n: usize) -> Result<(), Refusal>
-        requires { (n ≤ 257) × (8 * n ≤ length counters.old) }
-        ensures { AddedTo n self.now.numbers counters.old result counters.new }
+    // Test 24, then the counters: all sums are known before the first byte is written.
+    #[tactic(auto, using(format::proofs::Report::counters_same))]
+    pub fn add_to(&self, counters: &mut [u8]) -> Result<(), Refusal>
+        requires { 8 * self.now.size ≤ length counters.old }
+        ensures value { returned result ≡ sums_answer self.now.size (counter counters.old) self.now.numbers }
+        ensures counters_after { counters.new
+            ≡ counters_left self.now.size self.now.numbers counters.old (returned result) }
     {
-        self.sums(counters, n)?.put(counters, n);
+        self.sums(counters)?.put(counters);
         Ok(())
     }
 }

@@ -9,6 +9,7 @@ use chain::in_range;
 use format::Refusal;
 
 // Tests 1, 23, 8 and 24, then the counters.
+#[tactic(auto, unfolding(format::specs::Report::report_answer, format::specs::Report::report_counters, format::specs::Refusals::size_refusal))]
 pub fn report(
     width: usize,
     height: usize,
@@ -25,9 +26,8 @@ pub fn report(
         return Err(Refusal::Size);
     }
     let list = list_of(colors)?;
-    let n = list.size + 1;
     let count = height * width;
-    if counters.len() < 8 * n || picture.len() < 4 * count {
+    if counters.len() < 8 * (list.size + 1) || picture.len() < 4 * count {
         return Err(Refusal::ShortBuffer);
     }
     let counting = Counting {
@@ -35,5 +35,5 @@ pub fn report(
         picture,
         count,
     };
-    counting.counts().add_to(counters, n)
+    counting.counts().add_to(counters)
 }

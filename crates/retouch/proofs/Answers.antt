@@ -4,7 +4,6 @@ use mathlib.Core.Bool.{true, false}
 use mathlib.Core.List.{List, [], ◌∷◌}
 use mathlib.Core.Path.{◌≡◌, refl, sym, ◌∙◌}
 use Prim.Native.Nat.{ℕ, ◌+◌, ◌*◌, ◌<◌, ◌≤◌}
-use native.Mathlib.Omega.{arith}
 use borrow.Author.Tests.{lt-ltb, le-ltb}
 use Rattle.format.specs.declared.Pixel.{Pixel}
 use Rattle.format.specs.declared.Refusal.{Refusal}
@@ -17,31 +16,30 @@ use Rattle.format.specs.Calls.{records, inside, painted, pair_refusal, retouch_a
 use Rattle.format.proofs.Valid.{before_some}
 use Rattle.format.proofs.Calls.{retouch_refused}
 use Rattle.format.proofs.Steps.{new_strip_steps, point_answer_steps}
-use Rattle.pixel.proofs.Blocks.{row_there}
 use Rattle.chain.specs.declared.Chain.{Chain}
+use Rattle.chain.specs.declared.record.ValidChain.{ValidChain}
 use Rattle.chain.specs.Valid.{steps_of, pixels_in, records_in}
 use Rattle.chain.specs.Reading.{Opened}
-use Rattle.chain.proofs.Valid.{pixels_few}
 use Rattle.item.specs.declared.painted.Point.{Point}
 use Rattle.retouch.proofs.Deciding.{refused_number}
 use Rattle.retouch.specs.Decided.{answer_by, picture_left, strip_left}
 
-module _ (w h : ℕ) (cs ds picture strip : List ℕ) (x y : ℕ) (v : Pixel) where
+module _ (w h : ℕ) (cs ds picture strip : List ℕ) (x y : ℕ) (color : Pixel) where
   abbrev answer : ℕ
-  answer = retouch_answer w h cs ds picture strip x y v
+  answer = retouch_answer w h cs ds picture strip x y color
 
   abbrev Answered : ℕ → List ℕ → List ℕ → Type 0
-  Answered r ps ss = (r ≡ answer) × ((ps ≡ retouch_picture w h cs ds picture strip x y v) × (ss ≡ retouch_strip w h cs ds picture strip x y v))
+  Answered r ps ss = (r ≡ answer) × ((ps ≡ retouch_picture w h cs ds picture strip x y color) × (ss ≡ retouch_strip w h cs ds picture strip x y color))
 
   abbrev at : ℕ → Point
-  at i = record { index = i; color = v }
+  at i = record { index = i; color = color }
 
   abbrev new : Picture
-  new = painted w (pixels picture) x y v
+  new = painted w (pixels picture) x y color
 
   refused : (r : Refusal) → number r ≡ answer → Answered (number r) picture strip
   refused r e =
-      let s = retouch_refused w h cs ds picture strip x y v (rw (← e) (refused_number r)) in
+      let s = retouch_refused w h cs ds picture strip x y color (rw (← e) (refused_number r)) in
       (e, (sym s.0, sym s.1))
 
   -- refusals 1 to 8
@@ -61,31 +59,27 @@ module _ (w h : ℕ) (cs ds picture strip : List ℕ) (x y : ℕ) (v : Pixel) wh
     refused_outside (inl l) = outside (rw (le-ltb x w l) refl)
     refused_outside (inr (l, m)) = outside (rw (lt-ltb x w l, le-ltb y h m) refl)
 
-    module _ (c : Chain) (opened : Opened w h cs ds picture strip c) where
+    module _ (v : ValidChain) (opened : Opened w h cs ds picture strip v) where
+      abbrev c : Chain
+      c = v.chain
+
       -- 22, or the point and its records
       module _ (column : x < w) (row : y < h) where
         area : pixels_in c ≡ h * w
-        area = rw (opened.of.height, opened.of.width) refl
-
-        -- the point's index
-        pub index_inside : y * c.width.0 + x < pixels_in c
-        index_inside = rw (area, opened.of.width) (omega (arith, row_there w h y row))
-
-        pub index_small : y * c.width.0 + x < 16384 * 16384
-        index_small = let i = index_inside in let m = pixels_few c ds (opened.valid) in omega arith
+        area = cc (opened.of.height, opened.of.width)
 
         wide : records_in c ≡ records w h cs
-        wide = rw (opened.of.height, opened.of.strip) refl
+        wide = cc (opened.of.height, opened.of.strip)
 
         here : answer ≡ point_answer (step_at cs w) ds (count cs) (records w h cs) new (y * w + x) (pixels strip)
         unfolding retouch_answer
         here = rw (← valid, lt-ltb x w column, lt-ltb y h row) refl
 
-        pub answered : (i : ℕ) → i ≡ y * c.width.0 + x → (r : ℕ) (ps ss : List ℕ) → r ≡ answer_by c ds picture strip (at i)
-            → ps ≡ picture_left c picture (at i) r → ss ≡ strip_left c ds picture strip (at i) r → Answered r ps ss
+        pub answered : (i : ℕ) → i ≡ y * c.width.0 + x → (r : ℕ) (ps ss : List ℕ) → r ≡ answer_by v picture strip (at i)
+            → ps ≡ picture_left v picture (at i) r → ss ≡ strip_left v picture strip (at i) r → Answered r ps ss
         unfolding retouch_picture retouch_strip
         answered i j r ps ss a p s =
             let k : i ≡ y * w + x = j ∙ rw opened.of.width refl in
-            let q = rw (k, wide, opened.of.count, point_answer_steps (steps_of c) (step_at cs w) h ds new (pixels strip) (count cs) opened.of.steps.at (records w h cs) (y * w + x)) at a in
+            let q = rw (k, wide, opened.on, opened.of.count, point_answer_steps (steps_of c) (step_at cs w) h ds new (pixels strip) (count cs) opened.of.steps.at (records w h cs) (y * w + x)) at a in
             let e : r ≡ answer = q ∙ sym here in
-            (e, (p ∙ rw (k, e, area) refl, s ∙ rw (k, e, wide, opened.of.count, new_strip_steps (steps_of c) (step_at cs w) h ds new (pixels strip) (count cs) opened.of.steps.at ((y * w + x) ∷ [])) refl))
+            (e, (p ∙ rw (k, e, area) refl, s ∙ rw (k, e, wide, opened.on, opened.of.count, new_strip_steps (steps_of c) (step_at cs w) h ds new (pixels strip) (count cs) opened.of.steps.at ((y * w + x) ∷ [])) refl))

@@ -21,16 +21,16 @@ use Rattle.format.proofs.Calls.{is_accepted}
 use Rattle.format.proofs.Marks.{ones_mask_of}
 use Rattle.pixel.specs.Cells.{put_pixel}
 use Rattle.pixel.proofs.Front.{put_painted}
-use Rattle.chain.specs.declared.Chain.{Chain}
-use Rattle.chain.specs.Valid.{HoldsPicture, steps_of, pixels_in, records_in, stored_by}
+use Rattle.chain.specs.declared.record.ValidChain.{ValidChain}
+use Rattle.chain.specs.Valid.{HoldsPicture, steps_of, pixels_in, records_in}
 use Rattle.item.specs.declared.painted.Point.{Point}
 use Rattle.item.specs.Source.{shown}
 use Rattle.retouch.specs.declared.records.Records.{Records}
 use Rattle.retouch.specs.declared.changes.Changes.{Changes}
 use Rattle.retouch.specs.declared.decide.Decision.{Decision}
-use Rattle.retouch.specs.Spots.{records_of}
-use Rattle.retouch.specs.Remade.{MadeTo, over, cannot, RemadeBy, MasksMade, WritesMade}
-use Rattle.retouch.specs.Decided.{touched_by, records_by, answer_by, picture_left, strip_left, Decided}
+use Rattle.retouch.specs.Spots.{records_of, touched_by}
+use Rattle.retouch.specs.Remade.{MadeTo, strip_of, over, cannot, RemadeBy, MasksMade, WritesMade}
+use Rattle.retouch.specs.Decided.{records_by, answer_by, picture_left, strip_left, Decided}
 
 -- refusals are not accepted
 pub refused_number : (r : Refusal) → accepted (number r) ≡ false
@@ -62,47 +62,47 @@ among_listed (x ∷ xs) (suc k) u = rw (among_listed xs k (le_of_suc-le-suc u)) 
     or_true true = refl
     or_true false = refl
 
-module _ (c : Chain) (ds picture strip : List ℕ) (point : Point) where
+module _ (v : ValidChain) (picture strip : List ℕ) (point : Point) where
   abbrev touched : List ℕ
-  touched = touched_by c ds picture strip point
+  touched = touched_by v point
 
   abbrev new : Picture
-  new = records_by c ds picture strip point
+  new = records_by v picture strip point
 
   abbrev lost : Bool
-  lost = cannot c ds (shown picture point) touched
+  lost = cannot v (shown picture point) touched
 
   abbrev made : Picture
-  made = stored_by c ds c.count (shown picture point)
+  made = strip_of v (shown picture point)
 
   abbrev changed : List Bool
-  changed = changes (steps_of c) ds c.count (records_in c) (shown picture point) (point.index ∷ []) (pixels strip)
+  changed = changes (steps_of v.chain) v.«data».now v.chain.count (records_in v.chain) (shown picture point) (point.index ∷ []) (pixels strip)
 
   new_over : new ≡ over made touched (pixels strip)
   unfolding new_strip remade over
   new_over = refl
 
   -- the records of the spots are those of the strip to come
-  made_new : (vs : List Pixel) → MadeTo (length touched) made (records_in c) touched vs → MadeTo (length touched) new (records_in c) touched vs
+  made_new : (vs : List Pixel) → MadeTo (length touched) made (records_in v.chain) touched vs → MadeTo (length touched) new (records_in v.chain) touched vs
   unfolding over
   made_new vs to = record { at = λ k u i. to.at k u i ∙ sym (rw (new_over, among_listed touched k u) refl) }
 
   -- 22, or what the mask says
-  answer_lost : lost ≡ true → answer_by c ds picture strip point ≡ number NoRecord
+  answer_lost : lost ≡ true → answer_by v picture strip point ≡ number NoRecord
   unfolding point_answer
   answer_lost q = rw q refl
 
-  answer_made : lost ≡ false → answer_by c ds picture strip point ≡ answer (Count.ones (mask_of changed)) (mask_of changed)
+  answer_made : lost ≡ false → answer_by v picture strip point ≡ answer (Count.ones (mask_of changed)) (mask_of changed)
   unfolding point_answer
   answer_made q = rw (q, ones_mask_of changed) refl
 
   module _ (rs : List ℕ) (is : rs ≡ touched) where
-    pub decided_refused : RemadeBy c ds (shown picture point) rs None → number NoRecord ≡ answer_by c ds picture strip point
+    pub decided_refused : RemadeBy v (shown picture point) rs None → number NoRecord ≡ answer_by v picture strip point
     decided_refused by = sym (answer_lost (sym (rw is at by.missing)))
 
     -- what is decided by a mask
-    pub decided_made : (s : Records) (vs : List Pixel) → rs ≡ records_of s → RemadeBy c ds (shown picture point) rs (Some vs) → (changes : Changes) → MasksMade (records_in c) rs vs (pixels strip) changes.mask
-        → Decided c ds picture strip point (record { changes = changes; spots = s; made = vs })
+    pub decided_made : (s : Records) (vs : List Pixel) → rs ≡ records_of s → RemadeBy v (shown picture point) rs (Some vs) → (changes : Changes) → MasksMade (records_in v.chain) rs vs (pixels strip) changes.mask
+        → Decided v picture strip point (record { changes = changes; spots = s; made = vs })
     unfolding changes
     decided_made s vs q by mask mark =
         let b = rw is at by.records in
@@ -110,12 +110,12 @@ module _ (c : Chain) (ds picture strip : List ℕ) (point : Point) where
         record { answer = sym (answer_made (sym (rw is at by.missing)) ∙ rw m refl); records = sym q ∙ is; made = b }
 
   -- accepted: the point and the records are written
-  module _ (d : Decision) (is : Decided c ds picture strip point d) where
+  module _ (d : Decision) (is : Decided v picture strip point d) where
     taken : accepted (number_of d) ≡ true
     taken = is_accepted (number_of d) (omega arith)
 
-    pub left_picture : (ps : List ℕ) → HoldsPicture c picture → point.index < pixels_in c → ps ≡ put_pixel picture point.index point.color → ps ≡ picture_left c picture point (number_of d)
-    left_picture ps room inside e = e ∙ rw taken (put_painted (pixels_in c) picture point.index point.color room inside)
+    pub left_picture : (ps : List ℕ) → HoldsPicture v.chain picture → point.index < pixels_in v.chain → ps ≡ put_pixel picture point.index point.color → ps ≡ picture_left v picture point (number_of d)
+    left_picture ps room inside e = e ∙ rw taken (put_painted (pixels_in v.chain) picture point.index point.color room inside)
 
-    pub left_strip : (ss : List ℕ) → WritesMade (records_in c) (records_of d.spots) d.made strip ss → ss ≡ strip_left c ds picture strip point (number_of d)
+    pub left_strip : (ss : List ℕ) → WritesMade (records_in v.chain) (records_of d.spots) d.made strip ss → ss ≡ strip_left v picture strip point (number_of d)
     left_strip ss wrote = (rw is.records at wrote) made is.made ∙ rw (taken, new_over) refl

@@ -1,45 +1,21 @@
 -- Laws of a point's spots on their way through a chain.
+use mathlib.Core.Logic.{◌⊎◌, inl, inr}
 use mathlib.Core.List.{List, [], ◌∷◌}
 use mathlib.Core.Path.{◌≡◌, refl, sym, ap, ◌∙◌}
-use Prim.Native.Nat.{ℕ, zero, suc, ◌+◌, ◌*◌, ◌/◌, ◌%◌, ◌<◌, ◌≤◌}
-use native.Mathlib.Nat.{mul-le-mul_left, div-add-mod', div-le_self}
+use Prim.Native.Nat.{ℕ, zero, suc, ◌+◌, ◌<◌, ◌≤◌}
 use native.Mathlib.Numerals.{add-one}
 use native.Mathlib.Omega.{arith}
+use borrow.Author.Tests.{ne_eqb}
 use lib.ListN.{length, get_or, take, drop, length-append}
 use lib.Seq.{drop-cons, drop-length, length-take-le}
 use Rattle.format.specs.Indices.{union}
 use Rattle.format.specs.declared.Step.{Step}
 use Rattle.format.specs.declared.TransformType.{TransformType}
-use Rattle.format.specs.declared.TransformType.TheVariants.{Predictor, Color, SubtractGreen, ColorTable}
+use Rattle.format.specs.declared.TransformType.TheVariants.{Color, SubtractGreen}
 use Rattle.format.specs.Chain.{kind_of}
-use Rattle.format.specs.ColorTable.{packed_width}
-use Rattle.format.specs.Retouch.{five_spots, place_of, spots_of, spot_records}
-use Rattle.format.proofs.ByKind.{narrowed_table}
-use Rattle.format.proofs.Stages.{narrowed_fewer}
+use Rattle.format.specs.Retouch.{five_spots, packed_over, spots_of, spot_records}
 use Rattle.format.proofs.Locality.{spots_place}
-use Rattle.chain.specs.declared.Chain.{Chain}
-use Rattle.chain.specs.Valid.{Valid}
-use Rattle.chain.proofs.Valid.{step_sized}
-use Rattle.retouch.specs.Spots.{Followed, places_of}
-
--- a kind's number is its own
-pub is_predictor : (t : TransformType) → kind_of t ≡ 0 → t ≡ Predictor
-is_predictor Predictor e = refl
-is_predictor Color e = absurd (omega arith)
-is_predictor SubtractGreen e = absurd (omega arith)
-is_predictor ColorTable e = absurd (omega arith)
-
--- a packed pixel's number is no larger than those of the items that it holds: column x of row y of w columns, p packed
-pub packed_less : (w p q x y n : ℕ) → p ≤ w → x ≡ q % w → y ≡ q / w → y * p + x / n ≤ q
-packed_less w p q x y n l a b =
-    rw (a, b) (omega (arith, mul-le-mul_left {m = p} {n = w} (q / w) l, div-add-mod' q w, div-le_self (q % w) n))
-
--- packed columns are no more than the columns
-pub packed_fewer : (w size p : ℕ) → p ≡ packed_width size w → p ≤ w
-packed_fewer w size p q = rw (q, ← narrowed_table table refl) (narrowed_fewer table)
-  where
-    table : Step
-    table = record { kind = 3; bits = 0; size = size; offset = 0; length = 0; zero = 0; width = w }
+use Rattle.retouch.specs.Spots.{packs}
 
 -- five records as they stand in an array
 five : (xs : List ℕ) → length xs ≡ 5 → xs ≡ get_or xs 0 0 ∷ get_or xs 1 0 ∷ get_or xs 2 0 ∷ get_or xs 3 0 ∷ get_or xs 4 0 ∷ []
@@ -53,28 +29,46 @@ five xs l =
       drop-cons xs 4 0 (omega arith),
     )
 
--- a record that is no predictor moves each
+-- a table packs each
 
 abbrev moved : (ℕ → ℕ) → List ℕ → List ℕ
 moved g [] = []
 moved g (q ∷ qs) = g q ∷ moved g qs
 
-union_moved : (h : ℕ → List ℕ) (g : ℕ → ℕ) → ((q : ℕ) → h q ≡ g q ∷ []) → (n : ℕ) (xs : List ℕ) → union h (take n xs) ≡ take n (moved g xs)
-union_moved h g e zero xs = refl
-union_moved h g e (suc n) [] = refl
-union_moved h g e (suc n) (q ∷ xs) = cc (e q, union_moved h g e n xs)
+union_moved : (g : ℕ → ℕ) (n : ℕ) (xs : List ℕ) → union (λ q. g q ∷ []) (take n xs) ≡ take n (moved g xs)
+union_moved g zero xs = refl
+union_moved g (suc n) [] = refl
+union_moved g (suc n) (q ∷ xs) = cc (union_moved g n xs)
 
-pub follow_placed : (s : Step) (xs ys : List ℕ) (n : ℕ) → (s.kind ≡ 0 → ⊥) → length xs ≡ 5
-    → ys ≡ places_of s xs
-    → take n ys ≡ union (spots_of s) (take n xs)
-follow_placed s xs ys n d l e =
-    let p : moved (place_of s) xs ≡ ys = ap (moved (place_of s)) (five xs l) ∙ sym e in
-    rw (union_moved (spots_of s) (place_of s) (λ q. spots_place s q d) n xs, p)
+pub taken_packed : (w size n : ℕ) (xs ys : List ℕ) → length xs ≡ 5 → ys ≡ packs w size xs → take n ys ≡ union (λ q. packed_over w size q ∷ []) (take n xs)
+taken_packed w size n xs ys l e =
+    let p : moved (packed_over w size) xs ≡ ys = ap (moved (packed_over w size)) (five xs l) ∙ sym e in
+    rw (union_moved (packed_over w size) n xs, p)
 
--- a predictor has five spots for the one item
-pub follow_predictor : (s : Step) (xs ys : List ℕ) (n : ℕ) → s.kind ≡ 0 → n ≡ 1 → length xs ≡ 5 → ys ≡ five_spots s.width (get_or xs 0 0) → take 5 ys ≡ union (spots_of s) (take n xs)
+-- what each kind of record makes of the spots
+
+pub followed_predictor : (s : Step) (xs ys : List ℕ) (n : ℕ) → s.kind ≡ 0 → n ≡ 1 → length xs ≡ 5 → ys ≡ five_spots s.width (get_or xs 0 0) → ys ≡ union (spots_of s) (take n xs)
 unfolding spots_of
-follow_predictor s xs ys n k one l e = rw (one, e, five xs l, k)
+followed_predictor s xs ys n k one l e = rw (one, e, five xs l, k)
+
+packed_spots : (s : Step) (xs : List ℕ) → s.kind ≡ 3 → union (λ q. packed_over s.width s.size q ∷ []) xs ≡ union (spots_of s) xs
+unfolding spots_of
+packed_spots s [] k = refl
+packed_spots s (q ∷ xs) k = cc (packed_spots s xs k, spots_place s q (λ e. omega arith))
+
+pub followed_table : (s : Step) (xs ys : List ℕ) → s.kind ≡ 3 → ys ≡ union (λ q. packed_over s.width s.size q ∷ []) xs → ys ≡ union (spots_of s) xs
+followed_table s xs ys k e = e ∙ packed_spots s xs k
+
+pub followed_other : (s : Step) (t : TransformType) (xs : List ℕ) → (t ≡ Color) ⊎ (t ≡ SubtractGreen) → s.kind ≡ kind_of t → xs ≡ union (spots_of s) xs
+followed_other s t [] is k = refl
+followed_other s t (q ∷ xs) is k = cc (followed_other s t xs is k, stays (kind is))
+  where
+    kind : (t ≡ Color) ⊎ (t ≡ SubtractGreen) → (1 ≤ s.kind) × (s.kind ≤ 2)
+    kind (inl e) = let n : s.kind ≡ 1 = k ∙ ap kind_of e in omega arith
+    kind (inr e) = let n : s.kind ≡ 2 = k ∙ ap kind_of e in omega arith
+
+    stays : (1 ≤ s.kind) × (s.kind ≤ 2) → spots_of s q ≡ q ∷ []
+    stays b = spots_place s q (λ e. omega arith) ∙ rw (ne_eqb s.kind 3 (λ e. omega arith)) refl
 
 -- the records so far
 
@@ -100,13 +94,3 @@ spots_more steps p k rs ts e q = rw (add-one k, ← e) q
 
 pub one_taken : (steps : ℕ → Step) (p k n : ℕ) (xs : List ℕ) → ((j : ℕ) → j < k → (steps j).kind ≡ 0 → ⊥) → take n xs ≡ spot_records steps k (p ∷ []) → n ≤ length xs → n ≡ 1
 one_taken steps p k n xs none e l = sym (length-take-le n xs l) ∙ ap length e ∙ one_spot steps p k none
-
--- a valid chain is followed
-pub valid_followed : (c : Chain) (ds : List ℕ) → Valid c ds → Followed c
-valid_followed c ds v = record {
-  few = v.few;
-  known = λ k l. (v.step k l).known;
-  wide = λ k l. (step_sized c ds v k l).wide;
-  narrow = λ k l. (step_sized c ds v k l).narrow;
-  once = λ j k i l a b. v.once j k i l (a ∙ sym b);
-}

@@ -1,5 +1,4 @@
 pub mod Follow
-pub mod Listed
 pub mod Marked
 pub mod Making
 pub mod Writing

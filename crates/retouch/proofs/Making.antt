@@ -17,24 +17,19 @@ use Rattle.format.specs.Pixel.{clear}
 use Rattle.format.specs.Picture.{Picture}
 use Rattle.format.specs.Made.{missing}
 use Rattle.format.specs.Retouch.{unmade}
-use Rattle.chain.specs.declared.Chain.{Chain}
-use Rattle.chain.specs.Valid.{Valid, steps_of, records_in, stored_by}
-use Rattle.item.specs.Source.{items_after}
+use Rattle.chain.specs.declared.record.ValidChain.{ValidChain}
+use Rattle.chain.specs.Valid.{steps_of, records_in}
 use Rattle.item.proofs.Items.{made_missing}
-use Rattle.retouch.specs.Remade.{MadeTo, made_inside, cannot, RemadeBy}
+use Rattle.retouch.specs.Remade.{MadeTo, strip_of, made_inside, cannot, RemadeBy}
 
--- a record of the strip is an item after the last record
-pub record_inside : (c : Chain) (ds : List ℕ) → Valid c ds → (n r : ℕ) → n ≡ records_in c → r < n → r < items_after c c.count
-record_inside c ds v n r e l = rw (← v.strip, ← e) l
-
-module _ (c : Chain) (ds : List ℕ) (f : Picture) where
+module _ (v : ValidChain) (f : Picture) where
   -- the first k records can be made: whether one cannot is left to the others
   abbrev pub SpotsPassed : List ℕ → ℕ → Type 0
-  SpotsPassed rs k = cannot c ds f rs ≡ cannot c ds f (drop k rs)
+  SpotsPassed rs k = cannot v f rs ≡ cannot v f (drop k rs)
 
   -- record r cannot be made
   abbrev lost : ℕ → Bool
-  lost r = ltb r (records_in c) && missing (steps_of c) ds c.count f r
+  lost r = ltb r (records_in v.chain) && missing (steps_of v.chain) v.«data».now v.chain.count f r
 
   module _ (rs : List ℕ) (k : ℕ) (passed : SpotsPassed rs k) where
     pub passed_more : k < length rs → lost (get_or rs k 0) ≡ false → SpotsPassed rs (k + 1)
@@ -42,14 +37,14 @@ module _ (c : Chain) (ds : List ℕ) (f : Picture) where
     passed_more u e = rw (add-one k) (passed ∙ rw (drop-cons rs k 0 u, e) refl)
 
     -- record k cannot be made
-    pub remade_missing : (m : Option Pixel) → k < length rs → m ≡ made_inside c ds f (get_or rs k 0) → m ≡ None → RemadeBy c ds f rs None
+    pub remade_missing : (m : Option Pixel) → k < length rs → m ≡ made_inside v f (get_or rs k 0) → m ≡ None → RemadeBy v f rs None
     unfolding unmade
     remade_missing m u e z =
         let t = made_missing _ _ (sym z ∙ e) in
         record { missing = sym (passed ∙ rw (drop-cons rs k 0 u, t) refl); records = tt }
 
     -- all were made
-    pub remade_all : k ≡ length rs → (vs : List Pixel) → MadeTo k (stored_by c ds c.count f) (records_in c) rs vs → RemadeBy c ds f rs (Some vs)
+    pub remade_all : k ≡ length rs → (vs : List Pixel) → MadeTo k (strip_of v f) (records_in v.chain) rs vs → RemadeBy v f rs (Some vs)
     unfolding unmade
     remade_all e vs to = record { missing = sym (passed ∙ rw (e, drop-length rs) refl); records = rw e at to }
 

@@ -1,17 +1,18 @@
--- Laws of the mask: its bits from the last spot to the first.
+-- Laws of the mask: its bits from the first spot to the last.
 use Rattle.std.specs.Int.{from_bool}
 use Rattle.std.specs.List.{list_any}
-use mathlib.Core.Bool.{Bool, true, false, not, ◌&&◌, ◌||◌}
+use mathlib.Core.Bool.{Bool, true, false, not, ◌&&◌, ◌||◌, or-false}
 use mathlib.Core.List.{List, [], ◌∷◌, ◌++◌}
-use mathlib.Core.Path.{◌≡◌, refl, sym, ap, ◌∙◌}
-use Prim.Native.Nat.{ℕ, zero, suc, ◌+◌, ◌-◌, ◌*◌, ◌^◌, ◌<◌, ◌≤◌}
-use native.Mathlib.Nat.{pow-suc}
+use mathlib.Core.Path.{◌≡◌, refl, sym, ◌∙◌}
+use Prim.Native.Nat.{ℕ, ◌+◌, ◌*◌, ◌%◌, ◌^◌, ◌<◌, ◌≤◌}
+use native.Mathlib.Nat.{pow-zero, pow-suc, mul-le-mul_right, mod-eq_of_lt}
+use native.Mathlib.Numerals.{add-one}
 use native.Mathlib.Omega.{arith}
 use lib.Pow.{pow_mono}
 use borrow.Author.Tests.{ltb-true, ne_eqb}
 use lib.Dec.{eqb, ltb}
-use lib.ListN.{length, get_or, take, drop}
-use lib.Seq.{take-suc}
+use lib.ListN.{length, get_or, take}
+use lib.Seq.{take-suc, length-take-le}
 use native.Mathlib.Decide.{ℕ_discrete}
 use Rattle.format.specs.Choice.{bit}
 use Rattle.format.specs.Indices.{among}
@@ -19,10 +20,7 @@ use Rattle.format.specs.declared.Pixel.{Pixel}
 use Rattle.format.specs.Pixel.{clear, equal}
 use Rattle.format.specs.Picture.{Picture}
 use Rattle.format.specs.Retouch.{differ, marks, mask_of}
-use Rattle.retouch.specs.Remade.{MadeTo, seen_before, marked}
-use Rattle.retouch.proofs.Listed.{listed_before}
-
--- the records seen before place k: in either order they are the same
+use Rattle.retouch.specs.Remade.{MadeTo, marked}
 
 eqb_swap : (a b : ℕ) → eqb a b ≡ eqb b a
 eqb_swap a b = go (ℕ_discrete a b)
@@ -31,19 +29,11 @@ eqb_swap a b = go (ℕ_discrete a b)
     go (yes e) = rw e refl
     go (no d) = rw (ne_eqb a b d, ne_eqb b a (λ e. d (sym e))) refl
 
-among_after : (r q : ℕ) (xs : List ℕ) → list_any (λ y. eqb y r) (xs ++ (q ∷ [])) ≡ (eqb r q || list_any (λ y. eqb y r) xs)
-among_after r q [] = rw (eqb_swap q r) refl
-among_after r q (x ∷ xs) = rw (among_after r q xs) (or_swap (eqb x r) (eqb r q) (list_any (λ y. eqb y r) xs))
-  where
-    or_swap : (a b c : Bool) → (a || (b || c)) ≡ (b || (a || c))
-    or_swap true true c = refl
-    or_swap true false c = refl
-    or_swap false b c = refl
+pub any_among : (r : ℕ) (xs : List ℕ) → list_any (λ y. eqb y r) xs ≡ among r xs
+any_among r [] = refl
+any_among r (x ∷ xs) = cc (eqb_swap x r, any_among r xs)
 
-pub among_seen : (xs : List ℕ) (r k : ℕ) → k ≤ length xs → list_any (λ y. eqb y r) (take k xs) ≡ among r (seen_before xs k)
-among_seen xs r zero l = refl
-among_seen xs r (suc k) l =
-    rw (take-suc xs k 0 l) (among_after r (get_or xs k 0) (take k xs) ∙ ap (λ (b : Bool). eqb r (get_or xs k 0) || b) (among_seen xs r k (omega arith)))
+-- a test as a bit
 
 from_bit : (t : Bool) → from_bool t ≡ bit t
 from_bit true = refl
@@ -53,7 +43,27 @@ pub from_small : (t : Bool) → from_bool t ≤ 1
 from_small true = omega arith
 from_small false = omega arith
 
--- the mask of the spots from place k on, where vs has the records of the strip g
+-- one spot more, by a test of its record
+
+module _ (t : ℕ → Bool) where
+  -- the records seen after those of xs, the last of them first
+  abbrev after : List ℕ → List ℕ → List ℕ
+  after seen [] = seen
+  after seen (x ∷ xs) = after (x ∷ seen) xs
+
+  among_after : (r : ℕ) (seen xs : List ℕ) → among r (after seen xs) ≡ (among r xs || among r seen)
+  among_after r seen [] = refl
+  among_after r seen (x ∷ xs) = among_after r (x ∷ seen) xs ∙ or_between (among r xs) (eqb r x) (among r seen)
+    where
+      or_between : (a b c : Bool) → (a || (b || c)) ≡ ((b || a) || c)
+      or_between true true c = refl
+      or_between true false c = refl
+      or_between false true c = refl
+      or_between false false c = refl
+
+  mask_last : (seen xs : List ℕ) (r : ℕ) → mask_of (marks t seen (xs ++ (r ∷ []))) ≡ mask_of (marks t seen xs) + 2 ^ length xs * bit (t r && not (among r (after seen xs)))
+  mask_last seen [] r = rw pow-zero (omega arith)
+  mask_last seen (x ∷ xs) r = rw (mask_last (x ∷ seen) xs r, pow-suc) (omega arith)
 
 made_differ : (n r : ℕ) (f g : Picture) (v : Pixel) → (r < n → v ≡ g r) → (ltb r n && not (equal (f r) v)) ≡ differ n f g r
 made_differ n r f g v e = go (ltb r n) refl
@@ -62,32 +72,32 @@ made_differ n r f g v e = go (ltb r n) refl
     go true q = rw (e (ltb-true r n q)) refl
     go false q = refl
 
--- a mask says which of the spots from place k on change the strip f
-pub record MaskFrom (xs : List ℕ) (n : ℕ) (f : Picture) (vs : List Pixel) (k mask : ℕ) : Type 0 where
-  pub is : (g : Picture) → MadeTo (length xs) g n xs vs → mask ≡ mask_of (marks (differ n f g) (seen_before xs k) (drop k xs))
+-- a mask says which of the first k spots change the strip f, where vs has the records of the strip g
+pub record MaskTo (xs : List ℕ) (n : ℕ) (f : Picture) (vs : List Pixel) (k mask : ℕ) : Type 0 where
+  pub is : (g : Picture) → MadeTo (length xs) g n xs vs → mask ≡ mask_of (marks (differ n f g) [] (take k xs))
+  pub small : mask < 2 ^ k
 
 module _ (xs : List ℕ) (n : ℕ) (f : Picture) (vs : List Pixel) where
-  -- the spot before place k too
-  pub mask_more : (k mask b : ℕ) (t : Bool) → MaskFrom xs n f vs k mask → 0 < k → k ≤ length xs → b ≡ from_bool t
-      → t ≡ marked n f xs (k - 1) (get_or vs (k - 1) clear)
-      → MaskFrom xs n f vs (k - 1) (b + 2 * mask)
-  mask_more k mask b t from p u q e = record {
+  -- the next spot too
+  pub mask_more : (k r mask b : ℕ) (v : Pixel) (m : Bool) → MaskTo xs n f vs k mask → k < length xs → r ≡ get_or xs k 0 → v ≡ get_or vs k clear
+      → m ≡ marked n f (take k xs) r v → b ≡ from_bool m * 2 ^ k
+      → MaskTo xs n f vs (k + 1) (mask + b)
+  mask_more k r mask b v m to u p q e j = record {
     is = λ g made.
-        let r = get_or xs (k - 1) 0 in
-        let s : r ∷ seen_before xs (k - 1) ≡ seen_before xs k = let j : k ≡ suc (k - 1) = omega arith in ap (seen_before xs) (sym j) in
-        let d = made_differ n r f g (get_or vs (k - 1) clear) (λ q. made.at (k - 1) (omega arith) q) in
-        rw (listed_before xs k p u, s, ← d, ← from.is g made, ← e, q, from_bit t) refl;
+        let rule = differ n f g in
+        let seen : among r (after rule [] (take k xs)) ≡ among r (take k xs) = among_after rule r [] (take k xs) ∙ or-false (among r (take k xs)) in
+        let d = made_differ n r f g v (λ i. q ∙ rw (← p) at (made.at k u (rw p at i))) in
+        let c : m ≡ (rule r && not (among r (take k xs))) = e ∙ rw d refl in
+        let l = length-take-le k xs (omega arith) in
+        rw (j, add-one k, take-suc xs k 0 u, ← p, mask_last rule [] (take k xs) r, seen, l, ← c, ← to.is g made, from_bit m) (omega arith);
+    small = rw (j, add-one k, pow-suc) (omega (arith, to.small, from_small m, mul-le-mul_right {m = from_bool m} {n = 1} (2 ^ k) (from_small m)));
   }
 
-  pub mask_whole : (k mask : ℕ) → MaskFrom xs n f vs k mask → k ≤ 0 → (g : Picture) → MadeTo (length xs) g n xs vs → mask ≡ mask_of (marks (differ n f g) [] xs)
-  mask_whole k mask from z g made = let e : k ≡ 0 = omega arith in rw e at (from.is g made)
+pub mask_small : (k mask : ℕ) → mask < 2 ^ k → k ≤ 5 → mask < 32
+mask_small k mask l u = let s : 2 ^ k ≤ 2 ^ 5 = pow_mono {j = 5} u in omega arith
 
--- its size
-
-pub mask_grows : (m k mask b : ℕ) → mask < 2 ^ (m - k) → b ≤ 1 → 0 < k → k ≤ m → b + 2 * mask < 2 ^ (m - (k - 1))
-mask_grows m k mask b l c p u =
-    let e : m - (k - 1) ≡ suc (m - k) = omega arith in
-    rw (e, pow-suc) (omega arith)
-
-pub mask_small : (m k mask : ℕ) → mask < 2 ^ (m - k) → m ≤ 5 → mask < 32
-mask_small m k mask l u = let s : 2 ^ (m - k) ≤ 2 ^ 5 = pow_mono {j = 5} (omega arith) in omega arith
+-- a bit below the fifth fits
+pub bit_fits : (k b : ℕ) (m : Bool) → b ≡ from_bool m → k < 5 → b * 2 ^ k % 4294967296 ≡ from_bool m * 2 ^ k
+bit_fits k b m e l =
+    let s : 2 ^ k ≤ 2 ^ 5 = pow_mono {j = 5} (omega arith) in
+    rw e (mod-eq_of_lt (omega (arith, mul-le-mul_right {m = from_bool m} {n = 1} (2 ^ k) (from_small m))))

@@ -1,13 +1,13 @@
 -- Records made afresh, in an array with a place for each: what making, marking and writing them does. n is the
 -- number of the strip's records.
-use Rattle.std.specs.Prelude.{Option, is_none, IfSome, Bool, not, ◌&&◌, List, [], ◌∷◌, ◌≡◌, ℕ, zero, suc, ◌<◌, ltb, length, get_or, if◌then◌else◌}
+use Rattle.std.specs.Prelude.{Option, is_none, IfSome, Bool, not, ◌&&◌, List, [], ◌≡◌, ℕ, ◌<◌, ltb, length, get_or, if◌then◌else◌}
 use Rattle.format.specs.Indices.{among}
 use Rattle.format.specs.declared.Pixel.{Pixel}
 use Rattle.format.specs.Pixel.{clear, equal}
 use Rattle.format.specs.Picture.{Picture, pixels, written}
 use Rattle.format.specs.Made.{missing, made}
 use Rattle.format.specs.Retouch.{differ, marks, mask_of, unmade}
-use Rattle.chain.specs.declared.Chain.{Chain}
+use Rattle.chain.specs.declared.record.ValidChain.{ValidChain}
 use Rattle.chain.specs.Valid.{steps_of, records_in, stored_by}
 
 -- of each of the first m records rs that is one of the first n, vs has it of the strip g
@@ -18,32 +18,33 @@ pub record MadeTo (m : ℕ) (g : Picture) (n : ℕ) (rs : List ℕ) (vs : List P
 unfoldable pub over : Picture → List ℕ → Picture → Picture
 over g rs f r = if among r rs then g r else f r
 
--- the first k records, the last of them first
-abbrev pub seen_before : List ℕ → ℕ → List ℕ
-seen_before rs zero = []
-seen_before rs (suc k) = get_or rs k 0 ∷ seen_before rs k
-
--- spot k is marked, where its record is made as v: it is one of the first n, the strip f has another there, and no
+-- a spot is marked, where its record r is made as v: it is one of the first n, the strip f has another there, and no
 -- earlier spot has it
 abbrev pub marked : ℕ → Picture → List ℕ → ℕ → Pixel → Bool
-marked n f rs k v =
-    let r = get_or rs k 0 in
-    (ltb r n && not (equal (f r) v)) && not (among r (seen_before rs k))
+marked n f earlier r v = (ltb r n && not (equal (f r) v)) && not (among r earlier)
+
+-- the strip of a picture f
+abbrev pub strip_of : ValidChain → Picture → Picture
+strip_of v f = stored_by v.chain v.«data».now v.chain.count f
 
 -- what making record r of the strip gives; any pixel stands for one past the strip
-abbrev pub made_inside : Chain → List ℕ → Picture → ℕ → Option Pixel
-made_inside c ds f r =
-    made (ltb r (records_in c) && missing (steps_of c) ds c.count f r)
-    (if ltb r (records_in c) then stored_by c ds c.count f r else clear)
+abbrev pub made_inside : ValidChain → Picture → ℕ → Option Pixel
+made_inside v f r =
+    made (ltb r (records_in v.chain) && missing (steps_of v.chain) v.«data».now v.chain.count f r)
+    (if ltb r (records_in v.chain) then strip_of v f r else clear)
 
 -- one of the records rs cannot be made of the picture f
-abbrev pub cannot : Chain → List ℕ → Picture → List ℕ → Bool
-cannot c ds f rs = unmade (steps_of c) ds c.count (records_in c) f rs
+abbrev pub cannot : ValidChain → Picture → List ℕ → Bool
+cannot v f rs = unmade (steps_of v.chain) v.«data».now v.chain.count (records_in v.chain) f rs
 
--- the records rs made of the picture f, unless one cannot
-pub record RemadeBy (c : Chain) (ds : List ℕ) (f : Picture) (rs : List ℕ) (r : Option (List Pixel)) : Type 0 where
-  pub missing : is_none r ≡ cannot c ds f rs
-  pub records : IfSome r (MadeTo (length rs) (stored_by c ds c.count f) (records_in c) rs)
+-- the records rs made of the picture f
+abbrev pub RemadeAll : ValidChain → Picture → List ℕ → List Pixel → Type 0
+RemadeAll v f rs vs = MadeTo (length rs) (strip_of v f) (records_in v.chain) rs vs
+
+-- the same, unless one cannot
+pub record RemadeBy (v : ValidChain) (f : Picture) (rs : List ℕ) (r : Option (List Pixel)) : Type 0 where
+  pub missing : is_none r ≡ cannot v f rs
+  pub records : IfSome r (RemadeAll v f rs)
 
 -- a mask marks the records that change, whichever strip g has those that were made
 abbrev pub MasksMade : ℕ → List ℕ → List Pixel → Picture → ℕ → Type 0

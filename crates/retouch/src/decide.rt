@@ -23,16 +23,16 @@ pub struct Decision {
 
 // Test 22, then the changes.
 pub fn decide(painted: &Painted, strip: &[u8]) -> Result<Decision, Refusal>
-    requires { HoldsStrip painted.now.chain strip.now × (painted.now.point.index < pixels_in painted.now.chain) }
+    requires strip { HoldsStrip painted.now.opened.chain strip.now }
+    requires inside { painted.now.point.index < pixels_in painted.now.opened.chain }
     ensures { MatchResult result
-        (Decided painted.now.chain painted.now.«data».now painted.now.picture.now strip.now painted.now.point)
-        (λ refusal. number refusal ≡ answer_by painted.now.chain painted.now.«data».now painted.now.picture.now
+        (Decided painted.now.opened painted.now.picture.now strip.now painted.now.point)
+        (λ refusal. number refusal ≡ answer_by painted.now.opened painted.now.picture.now
         strip.now painted.now.point) }
 {
-    let chain = painted.chain;
-    let spots = spots_of(chain, painted.point.index);
+    let spots = spots_of(painted);
     let made = remake(painted, spots.as_slice()).ok_or(Refusal::NoRecord)?;
-    let changes = changes_of(strip, records_in(chain), spots.as_slice(), made);
+    let changes = changes_of(strip, records_in(&painted.opened), spots.as_slice(), made);
     Ok(Decision {
         changes,
         spots,

@@ -1,6 +1,6 @@
 // The records of the spots made afresh, of the picture with its point painted.
 ghost use Rattle.std.specs.Prelude.{◌≡◌, ◌≤◌, length};
-ghost use Rattle.item.specs.Source.{shown};
+ghost use Rattle.item.specs.Source.{picture_of};
 ghost use Rattle.retouch.specs.Remade.{made_inside, RemadeBy};
 
 use crate::strip::records_in;
@@ -10,24 +10,22 @@ use pixel::pixel::CLEAR;
 
 // Record r of the strip. A spot past the strip has none, and nothing of it is looked at.
 fn remake_inside(painted: &Painted, r: usize) -> Option<Pixel>
-    ensures { result ≡ made_inside painted.now.chain painted.now.«data».now
-        (shown painted.now.picture.now painted.now.point) r }
+    ensures { result ≡ made_inside painted.now.opened (picture_of painted.now) r }
 {
-    if records_in(painted.chain) <= r {
+    if records_in(&painted.opened) <= r {
         return Some(CLEAR);
     }
-    painted.item(painted.chain.count, r)
+    painted.item(painted.opened.chain.count, r)
 }
 
-// None where one cannot be made.
+// None where one cannot be made. By the index of `made`: of what a `zip` of its `iter_mut` wrote no fact is known.
 pub fn remake(painted: &Painted, records: &[usize]) -> Option<[Pixel; 5]>
     requires { length records.now ≤ 5 }
-    ensures { RemadeBy painted.now.chain painted.now.«data».now
-        (shown painted.now.picture.now painted.now.point) records.now result }
+    ensures { RemadeBy painted.now.opened (picture_of painted.now) records.now result }
 {
     let mut made = [CLEAR; 5];
-    for k in 0..records.len() {
-        made[k] = remake_inside(painted, records[k])?;
+    for (k, r) in records.iter().enumerate() {
+        made[k] = remake_inside(painted, *r)?;
     }
     Some(made)
 }

@@ -7,7 +7,8 @@ ghost use Rattle.retouch.specs.Decided.{Retouchable, answer_by, picture_left, st
 use crate::changes::Changes;
 use crate::decide::decide;
 use crate::strip::{records_in, write};
-use chain::{Chain, open};
+use chain::open;
+use chain::record::ValidChain;
 use format::{Pixel, Refusal};
 use item::painted::{Painted, Point};
 use item::place::Place;
@@ -15,22 +16,18 @@ use pixel::pixel::put_pixel;
 
 // A valid chain whose buffers have room, and a point inside: what is decided is written, unless it is a refusal.
 fn retouch_valid(
-    chain: Chain,
-    data: &[u8],
+    opened: &ValidChain,
     picture: &mut [u8],
     strip: &mut [u8],
     point: Point,
 ) -> Result<Changes, Refusal>
-    requires { Retouchable chain «data».now picture.old strip.old point }
-    ensures value { retouched result ≡ answer_by chain «data».now picture.old strip.old point }
-    ensures picture_after { picture.new ≡ picture_left chain picture.old point (retouched result) }
-    ensures strip_after { strip.new ≡ strip_left chain «data».now picture.old
-        strip.old
-        point (retouched result) }
+    requires { Retouchable opened.now.chain picture.old strip.old point }
+    ensures value { retouched result ≡ answer_by opened.now picture.old strip.old point }
+    ensures picture_after { picture.new ≡ picture_left opened.now picture.old point (retouched result) }
+    ensures strip_after { strip.new ≡ strip_left opened.now picture.old strip.old point (retouched result) }
 {
     let painted = Painted {
-        chain,
-        data,
+        opened: *opened,
         picture: &*picture,
         point,
     };
@@ -38,7 +35,7 @@ fn retouch_valid(
     put_pixel(picture, point.index, point.color);
     write(
         strip,
-        records_in(chain),
+        records_in(opened),
         decision.spots.as_slice(),
         decision.made,
     );
@@ -68,8 +65,8 @@ pub fn retouch(
         return Err(Refusal::Outside);
     }
     let point = Point {
-        index: at.index(opened.width),
+        index: at.index(opened.chain.width),
         color,
     };
-    retouch_valid(opened, data, picture, strip, point)
+    retouch_valid(&opened, picture, strip, point)
 }

@@ -4,15 +4,14 @@ ghost use Rattle.pixel.specs.Cells.{put_pixel};
 ghost use Rattle.chain.specs.Valid.{records_in};
 ghost use Rattle.retouch.specs.Remade.{WritesMade};
 
-use chain::Chain;
+use chain::record::ValidChain;
 use format::Pixel;
 use pixel::pixel::put_pixel;
 
-pub fn records_in(chain: Chain) -> usize
-    requires { records_in chain ≤ 268435456 }
-    ensures { result ≡ records_in chain }
+pub fn records_in(opened: &ValidChain) -> usize
+    ensures { result ≡ records_in opened.now.chain }
 {
-    chain.height * chain.strip.0
+    opened.chain.height * opened.chain.strip.0
 }
 
 // Record r, where it is one of the first n.
@@ -25,12 +24,12 @@ fn write_inside(strip: &mut [u8], n: usize, r: usize, v: Pixel)
     }
 }
 
-// The records of all spots, from the last, as the definition does.
+// The records of all spots.
 pub fn write(strip: &mut [u8], n: usize, records: &[usize], made: [Pixel; 5])
     requires { (4 * n ≤ length strip.old) × (length records.now ≤ 5) }
     ensures { WritesMade n records.now made strip.old strip.new }
 {
-    for k in (0..records.len()).rev() {
-        write_inside(strip, n, records[k], made[k]);
+    for (r, v) in records.iter().zip(&made) {
+        write_inside(strip, n, *r, *v);
     }
 }

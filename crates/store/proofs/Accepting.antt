@@ -1,52 +1,53 @@
 -- Acceptance by the table, which is record t.
 use mathlib.Core.Bool.{Bool, true}
-use mathlib.Core.List.{List}
 use mathlib.Core.Path.{◌≡◌, sym, ◌∙◌}
 use Prim.Native.Nat.{ℕ, suc, ◌+◌, ◌-◌, ◌*◌}
 use native.Mathlib.Omega.{arith}
-use Rattle.format.specs.Picture.{Picture}
+use Rattle.format.specs.Picture.{Picture, pixels}
 use Rattle.format.specs.ColorTable.{have_entries}
-use Rattle.format.specs.Stages.{part_of, takes, stored}
+use Rattle.format.specs.Stages.{part_of, takes}
 use Rattle.format.proofs.ByKind.{takes_table}
-use Rattle.pixel.specs.Held.{HoldsRow}
-use Rattle.chain.specs.declared.Chain.{Chain}
-use Rattle.chain.specs.Valid.{Valid, steps_of, stored_by, accepts_by}
-use Rattle.store.specs.Stage.{IsTable, NoTable, RowOf, Accepts}
-use Rattle.store.proofs.Tables.{only}
+use Rattle.chain.specs.declared.record.ValidChain.{ValidChain}
+use Rattle.chain.specs.Valid.{steps_of, stored_by, accepts_by}
+use Rattle.color_table.specs.declared.lookup.Lookup.{Lookup}
+use Rattle.store.specs.declared.storing.Storing.{Storing}
+use Rattle.store.specs.declared.row.Accepted.{Accepted}
+use Rattle.store.specs.Stage.{step_of, IsTable, NoTable, Looks}
+use Rattle.store.specs.Turns.{accepted}
+use Rattle.store.specs.Made.{stage}
+use Rattle.store.proofs.Tables.{only, looked}
 use Rattle.store.proofs.Stages.{accepts_none, accepts_table}
 
-module _ (c : Chain) (ds : List ℕ) (v : Valid c ds) where
+module _ (v : ValidChain) (f : Picture) where
   -- no table
-  pub accepts_all : (f : Picture) → NoTable c → true ≡ accepts_by c ds c.count f
-  accepts_all f none = sym (accepts_none (steps_of c) c.height ds f c.count none)
+  pub accepts_all : NoTable v → true ≡ accepts_by v.chain v.«data».now v.chain.count f
+  accepts_all none = sym (accepts_none (steps_of v.chain) v.chain.height v.«data».now f v.chain.count none)
 
-  module _ (t : ℕ) (at : IsTable c t) where
+  module _ (t : ℕ) (at : IsTable v t) where
     -- no table before it
-    pub first_accepts : (f : Picture) → Accepts c ds t f
-    first_accepts f =
-        accepts_none (steps_of c) c.height ds f t (λ j l e. let b = at.below in let q = only c ds v t at j (omega arith) e in omega arith)
+    pub first_accepts : accepts_by v.chain v.«data».now t f ≡ true
+    first_accepts =
+        accepts_none (steps_of v.chain) v.chain.height v.«data».now f t (λ j l e. let b = at.below in let q = only v t at j (omega arith) e in omega arith)
 
     -- it alone decides
-    pub accepts-by : (f : Picture) (b : Bool) → b ≡ takes (steps_of c t) c.height ds (stored_by c ds t f) → b ≡ accepts_by c ds c.count f
-    accepts-by f b q =
+    pub accepts-by : (b : Bool) → b ≡ takes (step_of v t) v.chain.height v.«data».now (stored_by v.chain v.«data».now t f)
+        → b ≡ accepts_by v.chain v.«data».now v.chain.count f
+    accepts-by b q =
         let l = at.below in
-        let i = c.count - (t + 1) in
-        let e : i + suc t ≡ c.count = omega arith in
-        q ∙ sym (rw e at (accepts_table (steps_of c) c.height ds f t i (λ j u. only c ds v t at j (omega arith))))
+        let i = v.chain.count - (t + 1) in
+        let e : i + suc t ≡ v.chain.count = omega arith in
+        q ∙ sym (rw e at (accepts_table (steps_of v.chain) v.chain.height v.«data».now f t i (λ j u. only v t at j (omega arith))))
 
     -- over all rows of its stage
-    pub table_accepts : (f : Picture) (b : Bool) → b ≡ have_entries (steps_of c t).size (part_of (steps_of c t) ds) (c.height * (steps_of c t).width) (stored_by c ds t f)
-        → b ≡ accepts_by c ds c.count f
-    table_accepts f b q = accepts-by f b (q ∙ sym (takes_table (steps_of c t) c.height ds (stored_by c ds t f) at.kind))
+    pub table_accepts : (b : Bool)
+        → b ≡ have_entries (step_of v t).size (part_of (step_of v t) v.«data».now) (v.chain.height * (step_of v t).width) (stored_by v.chain v.«data».now t f)
+        → b ≡ accepts_by v.chain v.«data».now v.chain.count f
+    table_accepts b q = accepts-by b (q ∙ sym (takes_table (step_of v t) v.chain.height v.«data».now (stored_by v.chain v.«data».now t f) at.kind))
 
-    pub table_held : (f : Picture) (y : ℕ) (row : List ℕ) → RowOf c ds t f y row → HoldsRow (stored_by c ds t f) y (steps_of c t).width row
-    table_held f y row r = rw (v.width t at.below) r
-
-    pub all_rows : (f : Picture) (y : ℕ) → have_entries (steps_of c t).size (part_of (steps_of c t) ds) (y * (steps_of c t).width) (stored_by c ds t f) ≡ true → y ≡ c.height
-        → true ≡ accepts_by c ds c.count f
-    all_rows f y a q = table_accepts f true (sym (rw q at a))
-
-  pub accepts_first : IsTable c 0 → (f : Picture) (b : Bool) → b ≡ have_entries (steps_of c 0).size (part_of (steps_of c 0) ds) (c.height * (steps_of c 0).width) f
-      → b ≡ accepts_by c ds c.count f
-  unfolding stored
-  accepts_first at f b q = table_accepts 0 at f b q
+-- over the rows that the records before it make
+pub table_decides : (s : Storing) (a : Accepted) (t : ℕ) (l : Lookup) → (a.storing.now ≡ s) × (a.count ≡ t) → IsTable s.opened t → Looks s.opened t l → (b : Bool)
+    → b ≡ have_entries l.size (pixels l.entries.now) (s.opened.chain.height * a.width) (stage a a.count) → b ≡ accepted s
+table_decides s a t l (e, n) at k b q =
+    let v = s.opened in
+    let w : a.width ≡ (step_of v t).width = (rw (e, n) at a.wide) ∙ sym (v.valid.width t at.below) in
+    table_accepts v (pixels s.picture.now) t at b (q ∙ looked v t l k _ _ ∙ cc (w, e, n))

@@ -18,9 +18,11 @@ use Rattle.pixel.proofs.Held.{held_back}
 use Rattle.pixel.proofs.Given.{given_written, front_done}
 use Rattle.pixel.proofs.Rows.{row_more}
 use Rattle.pixel.proofs.Blocks.{row_there}
-use Rattle.chain.specs.declared.Chain.{Chain}
-use Rattle.chain.specs.Valid.{Valid, stored_by, records_in, HoldsStrip}
+use Rattle.store.specs.declared.row.Accepted.{Accepted}
+use Rattle.chain.specs.Valid.{width_after}
+use Rattle.chain.proofs.Valid.{after_fits}
 use Rattle.store.specs.Stage.{Same}
+use Rattle.store.specs.Made.{chain_of, height_of, stage, RowOf, RowMade, HoldsMade, made_in}
 use Rattle.store.proofs.Lent.{lent_length}
 use Rattle.store.proofs.Packed.{row_entries}
 
@@ -28,14 +30,8 @@ use Rattle.store.proofs.Packed.{row_entries}
 whole_written : (n : ℕ) (f : Picture) (xs ys : List ℕ) → length xs ≡ 4 * n → length ys ≡ 4 * n → written n f xs ≡ written n f ys
 unfolding written
 whole_written zero f [] [] p q = refl
-whole_written zero f [] (y ∷ ys) p q = absurd (nothing q)
-  where
-    nothing : suc (length ys) ≡ 4 * 0 → ⊥
-    nothing e = omega arith
-whole_written zero f (x ∷ xs) ys p q = absurd (nothing p)
-  where
-    nothing : suc (length xs) ≡ 4 * 0 → ⊥
-    nothing e = omega arith
+whole_written zero f [] (y ∷ ys) p q = absurd (omega arith)
+whole_written zero f (x ∷ xs) ys p q = absurd (omega arith)
 whole_written (suc n) f xs ys p q =
     cc (whole_written n (λ i. f (suc i)) (drop 4 xs) (drop 4 ys) (length-drop 4 xs ∙ omega arith) (length-drop 4 ys ∙ omega arith))
 
@@ -50,26 +46,28 @@ module _ (y w : ℕ) (strip : List ℕ) (room : 4 * (y * w) + 4 * w ≤ length s
       let same = sym (written_self w z (omega arith)) ∙ whole_written w (pixels z) z (part (y * w) w strip) full m in
       held_back g y w z strip z (same ∙ sym (given_written (pixels z) w (part (y * w) w strip) (omega arith))) h room
 
--- the rows of a strip, where those before y are stored
+pub stage_narrow : (a : Accepted) → a.width ≤ 16384
+stage_narrow a = let v = chain_of a in rw a.wide (after_fits v.chain _ v.valid a.count a.few)
 
-module _ (c : Chain) (ds : List ℕ) (v : Valid c ds) (f : Picture) (y : ℕ) (old strip : List ℕ) (long : length strip ≡ length old) (holds : HoldsStrip c old) where
-  abbrev width : ℕ
-  width = c.strip.0
+-- row y of the stage after n records, whose number is known
+pub row_known : (a : Accepted) (k n w y : ℕ) (row : List ℕ) → w ≡ width_after (chain_of a).chain n → n ≡ k → RowOf a k y row → HoldsRow (stage a n) y w row
+row_known a k n w y row e q h = rw (e, q) h
 
-  pub strip_room : y < c.height → 4 * (y * width) + 4 * width ≤ length strip
-  strip_room l = let r = row_there width c.height y l in omega arith
+-- the rows of a stage in a strip, where those before y are there
 
-  abbrev Done : ℕ → List ℕ → Type 0
-  Done k xs = xs ≡ run pixel_cells (given (stored_by c ds c.count f)) 0 (k * width) old
+abbrev pub Done : Accepted → ℕ → List ℕ → List ℕ → Type 0
+Done a y old strip = strip ≡ run pixel_cells (given (stage a a.count)) 0 (y * a.width) old
 
-  pub row_done : (z : List ℕ) → y < c.height → Done y strip → length z ≡ 4 * width → HoldsRow (stored_by c ds c.count f) y width z
-      → Done (y + 1) (back (4 * (y * width)) (4 * (y * width) + 4 * width - 4 * (y * width)) strip z)
-  row_done z l e full h =
-      row_more (given (stored_by c ds c.count f)) y width old strip _ e
-      (row_in_strip y width strip (strip_room l) (stored_by c ds c.count f) z full h)
+module _ (a : Accepted) (y : ℕ) (old strip : List ℕ) (long : length strip ≡ length old) (holds : HoldsMade a old) where
+  pub strip_room : y < height_of a → 4 * (y * a.width) + 4 * a.width ≤ length strip
+  strip_room l = let r = row_there a.width (height_of a) y l in omega arith
 
-  pub all_done : Done y strip → y ≡ c.height → strip ≡ written (records_in c) (stored_by c ds c.count f) old
-  all_done e q = front_done (stored_by c ds c.count f) (y * width) (records_in c) old strip e (ap (λ (k : ℕ). k * width) q) holds
+  pub row_done : (z : List ℕ) → y < height_of a → Done a y old strip → length z ≡ 4 * a.width → RowMade a y z
+      → Done a (y + 1) old (back (4 * (y * a.width)) (4 * (y * a.width) + 4 * a.width - 4 * (y * a.width)) strip z)
+  row_done z l e full h = row_more (given (stage a a.count)) y a.width old strip _ e (row_in_strip y a.width strip (strip_room l) (stage a a.count) z full h)
+
+  pub all_done : Done a y old strip → y ≡ height_of a → strip ≡ made_in a old
+  all_done e q = front_done (stage a a.count) (y * a.width) (height_of a * a.width) old strip e (ap (λ (k : ℕ). k * a.width) q) holds
 
 -- acceptance, row by row
 

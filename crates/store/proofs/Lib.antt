@@ -6,6 +6,5 @@ pub mod Packed
 pub mod Advance
 pub mod Stages
 pub mod Copied
-pub mod First
 pub mod Accepting
 pub mod Answers

@@ -7,15 +7,18 @@ use native.Mathlib.Nat.{le_refl}
 use native.Mathlib.Decide.{ℕ_discrete}
 use native.Mathlib.Omega.{arith}
 use Rattle.format.specs.declared.Step.{Step}
-use Rattle.format.specs.Picture.{Picture}
+use Rattle.format.specs.Picture.{Picture, pixels}
 use Rattle.format.specs.Stages.{stored, takes, accepts}
 use Rattle.format.proofs.Choice.{and_left, and_right}
 use Rattle.format.proofs.ByKind.{takes_table, takes_other}
 use Rattle.pixel.specs.Held.{HoldsRow}
-use Rattle.chain.specs.declared.Chain.{Chain}
-use Rattle.chain.specs.Valid.{Valid, steps_of, stored_by}
-use Rattle.store.specs.Stage.{Takes, Advanced, Above, RowOf, Accepts}
+use Rattle.chain.specs.declared.record.ValidChain.{ValidChain}
+use Rattle.chain.specs.Valid.{steps_of}
 use Rattle.chain.proofs.Valid.{step_sized}
+use Rattle.store.specs.declared.row.Accepted.{Accepted}
+use Rattle.store.specs.Stage.{step_of, Takes, Advanced}
+use Rattle.store.specs.Made.{chain_of, height_of, stage, RowOf, Started, Above}
+use Rattle.store.proofs.Tables.{once}
 use Rattle.store.proofs.Packed.{row_entries}
 
 -- acceptance
@@ -24,10 +27,7 @@ module _ (steps : ℕ → Step) (h : ℕ) (ds : List ℕ) (f : Picture) where
   -- by a record of those that accept
   pub accepts_at : (count k : ℕ) → k < count → accepts steps h ds count f ≡ true → takes (steps k) h ds (stored steps ds k f) ≡ true
   unfolding accepts
-  accepts_at zero k l e = absurd (no l)
-    where
-      no : k < 0 → ⊥
-      no l = omega arith
+  accepts_at zero k l e = absurd (omega arith)
   accepts_at (suc c) k l e = go (ℕ_discrete k c) (λ u. accepts_at c k u (and_left (accepts steps h ds c f) (takes (steps c) h ds (stored steps ds c f)) e))
     where
       go : Dec (k ≡ c) → (k < c → takes (steps k) h ds (stored steps ds k f) ≡ true) → takes (steps k) h ds (stored steps ds k f) ≡ true
@@ -55,66 +55,65 @@ module _ (steps : ℕ → Step) (h : ℕ) (ds : List ℕ) (f : Picture) where
       right true = refl
       right false = refl
 
--- the first m records of a valid chain
+module _ (a : Accepted) where
+  abbrev v : ValidChain
+  v = chain_of a
 
-module _ (c : Chain) (ds : List ℕ) (v : Valid c ds) (m : ℕ) (most : m ≤ c.count) where
   -- what record k asks of row y
-  pub takes_row : (f : Picture) (row : List ℕ) (k y : ℕ) → Accepts c ds m f → RowOf c ds k f y row → k < m → y < c.height → Takes (steps_of c k) ds row
-  takes_row f row k y a r l u e =
-      row_entries (steps_of c k).width c.height (steps_of c k).size y _ (stored_by c ds k f) row
-      (sym (takes_table (steps_of c k) c.height ds (stored_by c ds k f) e) ∙ accepts_at (steps_of c) c.height ds f m k l a) (rw (v.width k (omega arith)) r) u
+  pub takes_row : (k y : ℕ) (row : List ℕ) → k < a.count → y < height_of a → RowOf a k y row → Takes v k row
+  takes_row k y row l u r e =
+      let s = step_of v k in
+      let w = v.valid.width k (let f = a.few in omega arith) in
+      row_entries s.width (height_of a) s.size y _ (stage a k) row
+      (sym (takes_table s (height_of a) v.«data».now (stage a k) e) ∙ accepts_at (steps_of v.chain) (height_of a) v.«data».now (pixels a.storing.now.picture.now) a.count k l a.accepts) (rw w r) u
 
-  module _ (f : Picture) (k y : ℕ) (l : k < m) (row rows row' rows' : List ℕ) (held : RowOf c ds k f y row)
-      (above : Above c ds f m k y rows) (adv : Advanced (steps_of c k) ds y row rows row' rows') where
-    here : HoldsRow (stored_by c ds k f) y (steps_of c k).width row
-    here = rw (v.width k (omega arith)) held
+  module _ (k y : ℕ) (l : k < a.count) (row rows row' rows' : List ℕ) (held : RowOf a k y row) (above : Above a k y rows) (adv : Advanced v k y row rows row' rows') where
+    below : {j : ℕ} → j < a.count → j < v.chain.count
+    below u = let f = a.few in omega arith
 
-    pub row_next : RowOf c ds (suc k) f y row'
+    -- row z of stage j, where xs is the scratch rows
+    abbrev Row : ℕ → ℕ → List ℕ → Type 0
+    Row j z xs = HoldsRow (stage a j) z (step_of v j).width xs
+
+    here : Row k y row
+    here = rw (v.valid.width k (below l)) held
+
+    pub row_next : RowOf a (suc k) y row'
     unfolding stored
-    row_next = adv.made (stored_by c ds k f) here (λ e u. above.wait k (le_refl k) l e u)
+    row_next = adv.made (stage a k) here (λ e u. above.wait k (le_refl k) l e u)
 
     -- another record's row, where record k is no predictor
-    other : (j z : ℕ) → j < m → ((steps_of c k).kind ≡ 0 → ⊥) → HoldsRow (stored_by c ds j f) z (steps_of c j).width rows → HoldsRow (stored_by c ds j f) z (steps_of c j).width rows'
-    other j z u d r x i = adv.kept d x (let b = (step_sized c ds v j (omega arith)).narrow in omega arith) ∙ r x i
+    other : (j z : ℕ) → j < a.count → ((step_of v k).kind ≡ 0 → ⊥) → Row j z rows → Row j z rows'
+    other j z u d r x i = adv.kept d x (let b = (step_sized v.chain _ v.valid j (below u)).narrow in omega arith) ∙ r x i
 
     -- two predictors
-    twice : (j : ℕ) → j < m → (j ≡ k → ⊥) → (steps_of c j).kind ≡ 0 → (steps_of c k).kind ≡ 0 → ⊥
-    twice j u d e q = go (ℕ_discrete (j - k) 0)
-      where
-        go : Dec (j - k ≡ 0) → ⊥
-        go (yes z) = v.once j k (omega arith) (omega arith) (e ∙ sym q)
-        go (no z) = v.once k j (omega arith) (omega arith) (q ∙ sym e)
+    twice : (j : ℕ) → j < a.count → (j ≡ k → ⊥) → (step_of v j).kind ≡ 0 → (step_of v k).kind ≡ 0 → ⊥
+    twice j u d e q = d (once v j k (below u) (below l) (e ∙ sym q))
 
-    pub above_next : Above c ds f m (suc k) y rows'
-    above_next = record { done = λ j u e. done j u e (ℕ_discrete j k) (ℕ_discrete (steps_of c k).kind 0); wait = λ j u i e p. wait j u i e p (ℕ_discrete (steps_of c k).kind 0) }
+    pub above_next : Above a (suc k) y rows'
+    above_next = record { done = λ j u e. done j u e (ℕ_discrete j k) (ℕ_discrete (step_of v k).kind 0); wait = λ j u i e p. wait j u i e p (ℕ_discrete (step_of v k).kind 0) }
       where
-        done : (j : ℕ) → j < suc k → (steps_of c j).kind ≡ 0 → Dec (j ≡ k) → Dec ((steps_of c k).kind ≡ 0) → HoldsRow (stored_by c ds j f) y (steps_of c j).width rows'
-        done j u e (yes p) d =
-            subst (λ (i : ℕ). HoldsRow (stored_by c ds i f) y (steps_of c i).width rows') (sym p)
-            (adv.left (stored_by c ds k f) here (subst (λ (i : ℕ). (steps_of c i).kind ≡ 0) p e))
+        done : (j : ℕ) → j < suc k → (step_of v j).kind ≡ 0 → Dec (j ≡ k) → Dec ((step_of v k).kind ≡ 0) → Row j y rows'
+        done j u e (yes p) d = subst (λ (i : ℕ). Row i y rows') (sym p) (adv.left (stage a k) here (subst (λ (i : ℕ). (step_of v i).kind ≡ 0) p e))
         done j u e (no p) (yes q) = absurd (twice j (omega arith) p e q)
         done j u e (no p) (no q) = other j y (omega arith) q (above.done j (omega arith) e)
 
-        wait : (j : ℕ) → suc k ≤ j → j < m → (steps_of c j).kind ≡ 0 → 1 ≤ y → Dec ((steps_of c k).kind ≡ 0) → HoldsRow (stored_by c ds j f) (y - 1) (steps_of c j).width rows'
+        wait : (j : ℕ) → suc k ≤ j → j < a.count → (step_of v j).kind ≡ 0 → 1 ≤ y → Dec ((step_of v k).kind ≡ 0) → Row j (y - 1) rows'
         wait j u i e p (yes q) = absurd (twice j i (λ z. omega arith) e q)
         wait j u i e p (no q) = other j (y - 1) i q (above.wait j (omega arith) i e p)
 
--- rows
+  -- a row as it starts: the picture's own
+  pub started_none : (y : ℕ) (row : List ℕ) → HoldsRow (pixels a.storing.now.picture.now) y v.chain.width.0 row → Started a y 0 row
+  unfolding stored
+  started_none y row h = record { few = omega arith; first = omega arith; table = λ u. absurd (omega arith); held = h }
 
-module _ (c : Chain) (ds : List ℕ) (f : Picture) (m : ℕ) where
   -- before the first row there is none above
-  pub above_first : (rows : List ℕ) → Above c ds f m 0 0 rows
-  above_first rows = record { done = λ j l e. absurd (no l); wait = λ j u l e p. absurd (no p) }
-    where
-      no : {j : ℕ} → j < 0 → ⊥
-      no l = omega arith
+  pub above_first : (rows : List ℕ) → Above a 0 0 rows
+  above_first rows = record { done = λ j l e. absurd (omega arith); wait = λ j u l e p. absurd (omega arith) }
 
   -- the row that was made is above the next
-  pub above_row : (y : ℕ) (rows : List ℕ) → Above c ds f m m y rows → Above c ds f m 0 (y + 1) rows
-  above_row y rows a = record {
-    done = λ j l e. absurd (no l);
-    wait = λ j u l e p. let z : y + 1 - 1 ≡ y = omega arith in subst (λ (i : ℕ). HoldsRow (stored_by c ds j f) i (steps_of c j).width rows) (sym z) (a.done j l e);
+  pub above_row : (y : ℕ) (rows : List ℕ) → Above a a.count y rows → Above a 0 (y + 1) rows
+  above_row y rows h = record {
+    done = λ j l e. absurd (omega arith);
+    wait = λ j u l e p. let z : y + 1 - 1 ≡ y = omega arith in subst (λ (i : ℕ). HoldsRow (stage a j) i (step_of v j).width rows) (sym z) (h.done j l e);
   }
-    where
-      no : {j : ℕ} → j < 0 → ⊥
-      no l = omega arith

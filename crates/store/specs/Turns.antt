@@ -1,33 +1,28 @@
--- The same of what storing has at hand, s.
+-- What storing a picture answers, and the strip that it leaves. s is what it has at hand.
 use Rattle.std.specs.Prelude.{Result, Ok, Err, Bool, true, List, ◌≡◌, ℕ, if◌then◌else◌}
 use Rattle.format.specs.declared.Refusal.{Refusal}
 use Rattle.format.specs.declared.Refusal.TheVariants.{NoEntry}
-use Rattle.format.specs.Picture.{pixels}
-use Rattle.chain.specs.Valid.{accepts_by}
+use Rattle.format.specs.Picture.{pixels, written}
+use Rattle.chain.specs.Valid.{accepts_by, stored_by, records_in}
 use Rattle.store.specs.declared.storing.Storing.{Storing}
-use Rattle.store.specs.Stage.{RowOf, Started, Above, strip_after}
 
-abbrev pub RowIn : Storing → ℕ → ℕ → List ℕ → Type 0
-RowIn s m y row = RowOf s.chain s.«data».now m (pixels s.picture.now) y row
-
-abbrev pub StartedIn : Storing → ℕ → ℕ → ℕ → List ℕ → Type 0
-StartedIn s m y r row = Started s.chain s.«data».now m (pixels s.picture.now) y r row
-
-abbrev pub AboveIn : Storing → ℕ → ℕ → ℕ → List ℕ → Type 0
-AboveIn s m k y rows = Above s.chain s.«data».now (pixels s.picture.now) m k y rows
-
--- whether the first m records accept the picture
+-- whether the first m records accept the picture, and whether all do
 abbrev pub accepting : Storing → ℕ → Bool
-accepting s m = accepts_by s.chain s.«data».now m (pixels s.picture.now)
+accepting s m = accepts_by s.opened.chain s.opened.«data».now m (pixels s.picture.now)
 
 abbrev pub AcceptsIn : Storing → ℕ → Type 0
 AcceptsIn s m = accepting s m ≡ true
 
-abbrev pub strip_of : Storing → List ℕ → List ℕ
-strip_of s strip = strip_after s.chain s.«data».now s.picture.now strip
+abbrev pub accepted : Storing → Bool
+accepted s = accepting s s.opened.chain.count
 
--- what storing answers, and the strip that it leaves: the picture stored where it accepts, else 21 and the strip as it
--- was
+-- the strip once the picture is stored
+abbrev pub strip_of : Storing → List ℕ → List ℕ
+strip_of s strip =
+    let c = s.opened.chain in
+    written (records_in c) (stored_by c s.opened.«data».now c.count (pixels s.picture.now)) strip
+
+-- the picture stored where it is accepted, else 21 and the strip as it was
 pub record Stored (s : Storing) (strip : List ℕ) (r : Result (Unit {0}) Refusal) (strip' : List ℕ) : Type 0 where
-  pub answer : r ≡ (if accepting s s.chain.count then Ok tt else Err NoEntry)
-  pub bytes : strip' ≡ (if accepting s s.chain.count then strip_of s strip else strip)
+  pub answer : r ≡ (if accepted s then Ok tt else Err NoEntry)
+  pub bytes : strip' ≡ (if accepted s then strip_of s strip else strip)

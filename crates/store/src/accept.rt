@@ -2,7 +2,7 @@
 // here.
 ghost use Rattle.std.specs.Prelude.{◌≡◌};
 ghost use Rattle.store.specs.Stage.{IsTable, TableFirst};
-ghost use Rattle.store.specs.Turns.{accepting};
+ghost use Rattle.store.specs.Turns.{accepted};
 
 use crate::scratch::Scratch;
 use crate::storing::Storing;
@@ -10,24 +10,26 @@ use crate::storing::Storing;
 impl<'a> Storing<'a> {
     // Whether each pixel of the picture has an entry, where the first record is a table: all rows at once.
     pub fn accept_first(&self) -> bool
-        requires { TableFirst self.now.chain }
-        ensures { result ≡ accepting self.now self.now.chain.count }
+        requires { TableFirst self.now.opened }
+        ensures { result ≡ accepted self.now }
     {
-        let count = self.chain.height * self.chain.width.0;
-        self.lookup(0).accept(self.picture, count)
+        let chain = self.opened.chain;
+        self.lookup(0)
+            .accept(self.picture, chain.height * chain.width.0)
     }
 
     // Whether each pixel of the stage before record t, which is a table, has an entry.
     fn accept_rows(&self, t: usize, scratch: &mut Scratch) -> bool
-        requires { IsTable self.now.chain t }
-        ensures { result ≡ accepting self.now self.now.chain.count }
+        requires { IsTable self.now.opened t }
+        ensures { result ≡ accepted self.now }
     {
-        let steps = self.chain.steps;
-        let width = steps[t].width;
+        let before = self.accepted_by(t);
         let lookup = self.lookup(t);
-        for y in 0..self.chain.height {
-            self.make_row(t, y, scratch);
-            if !lookup.accept(scratch.front(width), width) {
+        // A `for`, since each row is made in the scratch: no law of `all` goes through a closure that changes what it
+        // holds.
+        for y in 0..self.opened.chain.height {
+            before.make_row(y, scratch);
+            if !lookup.accept(scratch.front(before.width), before.width) {
                 return false;
             }
         }
@@ -36,7 +38,7 @@ impl<'a> Storing<'a> {
 
     // Whether storing accepts the picture.
     pub fn accepts(&self, scratch: &mut Scratch) -> bool
-        ensures { result ≡ accepting self.now self.now.chain.count }
+        ensures { result ≡ accepted self.now }
     {
         match &self.table {
             None => true,

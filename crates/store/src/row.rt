@@ -1,64 +1,99 @@
 // A row of the picture on its way through the first records of a chain.
 ghost use Rattle.std.specs.Prelude.{◌≡◌, ◌*◌, ◌<◌, ◌≤◌, length};
+ghost use Rattle.format.specs.Picture.{pixels};
 ghost use Rattle.format.specs.Chain.{narrowed};
-ghost use Rattle.chain.specs.Valid.{steps_of};
-ghost use Rattle.store.specs.Stage.{TableFirst};
-ghost use Rattle.store.specs.Turns.{RowIn, StartedIn, AboveIn, AcceptsIn};
+ghost use Rattle.pixel.specs.Held.{HoldsRow};
+ghost use Rattle.chain.specs.Valid.{width_after};
+ghost use Rattle.store.specs.Stage.{step_of, TableFirst};
+ghost use Rattle.store.specs.Turns.{AcceptsIn};
 
 use crate::scratch::Scratch;
 use crate::storing::Storing;
 use pixel::stride::Expanded;
 
+// The first `count` records, which accept the picture, and the width that its rows have after them.
+#[derive(Clone, Copy)]
+pub struct Accepted<'a> {
+    pub storing: &'a Storing<'a>,
+    pub count: usize,
+    pub width: usize,
+    pub ghost few: { count ≤ storing.now.opened.chain.count },
+    pub ghost wide: { width ≡ width_after storing.now.opened.chain count },
+    pub ghost accepts: { AcceptsIn storing.now count },
+}
+
 impl<'a> Storing<'a> {
-    // Row y of the picture as it stands.
-    fn picture_row(&self, y: usize) -> &[u8]
-        requires { y < self.now.chain.height }
-        ensures { RowIn self.now 0 y result.now × (length result.now ≡ 4 * self.now.chain.width.0) }
+    // The first `count` records, where they accept the picture.
+    pub fn accepted_by(&self, count: usize) -> Accepted
+        requires { (count ≤ self.now.opened.chain.count) × AcceptsIn self.now count }
+        ensures { (result.storing.now ≡ self.now) × (result.count ≡ count) }
     {
-        let width = self.chain.width.0;
+        let chain = self.opened.chain;
+        let width = if count < chain.count {
+            chain.steps[count].width
+        } else {
+            chain.strip.0
+        };
+        Accepted {
+            storing: self,
+            count,
+            width,
+        }
+    }
+
+    // Row y of the picture.
+    fn picture_row(&self, y: usize) -> &[u8]
+        requires { y < self.now.opened.chain.height }
+        ensures { HoldsRow (pixels self.now.picture.now) y self.now.opened.chain.width.0 result.now
+            × (length result.now ≡ 4 * self.now.opened.chain.width.0) }
+    {
+        let width = self.opened.chain.width.0;
         let a = 4 * (y * width);
         let b = a + 4 * width;
         &self.picture[a..b]
     }
+}
+
+impl<'a> Accepted<'a> {
+    ghost use Rattle.store.specs.Made.{chain_of, height_of, RowOf, Started, Above, RowMade};
 
     // Row y of the picture packed in `out`, where the first record is a table.
     pub fn pack_first(&self, y: usize, out: &mut [u8])
-        requires first { TableFirst self.now.chain × AcceptsIn self.now 1 }
-        requires y_in_bounds { (y < self.now.chain.height)
-            × (4 * narrowed (steps_of self.now.chain 0) ≤ length out.old) }
-        ensures { RowIn self.now 1 y out.new }
+        requires first { TableFirst (chain_of self.now) × (1 ≤ self.now.count) }
+        requires inside { (y < height_of self.now) × (4 * narrowed (step_of (chain_of self.now) 0) ≤ length out.old) }
+        ensures { RowOf self.now 1 y out.new }
     {
-        let width = Expanded(self.chain.width.0);
-        self.lookup(0).pack_row(self.picture_row(y), width, out);
+        let storing = self.storing;
+        let width = Expanded(storing.opened.chain.width.0);
+        storing
+            .lookup(0)
+            .pack_row(storing.picture_row(y), width, out);
     }
 
     // Row y made ready in `row`: as it is in the picture, or packed where the first record is a table. The number of
     // records done is returned.
-    fn start_row(&self, m: usize, y: usize, row: &mut [u8]) -> usize
-        requires y_in_bounds { (m ≤ self.now.chain.count) × (y < self.now.chain.height) × (length row.old ≡ 65536) }
-        requires accepts { AcceptsIn self.now m }
-        ensures { StartedIn self.now m y result row.new }
+    fn start_row(&self, y: usize, row: &mut [u8]) -> usize
+        requires { (y < height_of self.now) × (length row.old ≡ 65536) }
+        ensures { Started self.now y result row.new }
     {
-        if 0 < m && self.table_first() {
+        if 0 < self.count && self.storing.table_first() {
             self.pack_first(y, row);
             return 1;
         }
-        let from = self.picture_row(y);
+        let from = self.storing.picture_row(y);
         row[0..from.len()].copy_from_slice(from);
         0
     }
 
-    // Row y after the first m records, made in the scratch row.
-    pub fn make_row(&self, m: usize, y: usize, scratch: &mut Scratch)
-        requires y_in_bounds { (m ≤ self.now.chain.count) × (y < self.now.chain.height) }
-        requires accepts { AcceptsIn self.now m }
-        requires above { AboveIn self.now m 0 y scratch.old.rows }
-        ensures made { RowIn self.now m y scratch.new.row }
-        ensures left { AboveIn self.now m m y scratch.new.rows }
+    // Row y after these records, made in the scratch row.
+    pub fn make_row(&self, y: usize, scratch: &mut Scratch)
+        requires { (y < height_of self.now) × Above self.now 0 y scratch.old.rows }
+        ensures made { RowMade self.now y scratch.new.row }
+        ensures left { Above self.now self.now.count y scratch.new.rows }
     {
-        let done = self.start_row(m, y, &mut scratch.row);
-        for k in done..m {
-            self.advance(k, y, scratch);
+        let done = self.start_row(y, &mut scratch.row);
+        for k in done..self.count {
+            self.storing.advance(k, y, scratch);
         }
     }
 }

@@ -4,91 +4,78 @@ ghost use Rattle.format.specs.Refusals.{returned};
 ghost use Rattle.format.specs.Calls.{store_answer, store_strip};
 ghost use Rattle.chain.specs.Valid.{HoldsStrip};
 ghost use Rattle.store.specs.Stage.{TableAlone};
-ghost use Rattle.store.specs.Turns.{AcceptsIn, strip_of, Stored};
+ghost use Rattle.store.specs.Turns.{Stored};
+ghost use Rattle.store.specs.Made.{chain_of, HoldsMade, made_in};
 
+use crate::row::Accepted;
 use crate::scratch::Scratch;
 use crate::storing::Storing;
 use chain::open;
 use format::Refusal;
 
-impl<'a> Storing<'a> {
-    // The rows of an accepted picture.
+impl<'a> Accepted<'a> {
+    // All rows.
     fn store_rows(&self, scratch: &mut Scratch, strip: &mut [u8])
-        requires { HoldsStrip self.now.chain strip.old × AcceptsIn self.now self.now.chain.count }
-        ensures { strip.new ≡ strip_of self.now strip.old }
+        requires { HoldsMade self.now strip.old }
+        ensures { strip.new ≡ made_in self.now strip.old }
     {
-        let width = self.chain.strip.0;
-        for y in 0..self.chain.height {
-            self.make_row(self.chain.count, y, scratch);
-            let a = 4 * (y * width);
-            let b = a + 4 * width;
-            strip[a..b].copy_from_slice(scratch.front(width));
+        for y in 0..self.storing.opened.chain.height {
+            self.make_row(y, scratch);
+            let a = 4 * (y * self.width);
+            let b = a + 4 * self.width;
+            strip[a..b].copy_from_slice(scratch.front(self.width));
         }
     }
 
-    // The rows of an accepted picture packed where they stand in the strip, by a table alone. This loop is no plainer
-    // with the one above in one: the scratch that it does without takes longer to make than a small picture to pack.
+    // All rows packed where they stand in the strip, by a table alone. This loop is no plainer with the one above in
+    // one: the scratch that it does without takes longer to make than a small picture to pack.
     fn pack_rows(&self, strip: &mut [u8])
-        requires { TableAlone self.now.chain × HoldsStrip self.now.chain strip.old
-            × AcceptsIn self.now self.now.chain.count }
-        ensures { strip.new ≡ strip_of self.now strip.old }
+        requires { TableAlone (chain_of self.now) self.now.count × HoldsMade self.now strip.old }
+        ensures { strip.new ≡ made_in self.now strip.old }
     {
-        let width = self.chain.strip.0;
-        for y in 0..self.chain.height {
-            let a = 4 * (y * width);
-            let b = a + 4 * width;
+        for y in 0..self.storing.opened.chain.height {
+            let a = 4 * (y * self.width);
+            let b = a + 4 * self.width;
             self.pack_first(y, &mut strip[a..b]);
-        }
-    }
-
-    // Whether a table is the only record.
-    fn table_alone(&self) -> bool
-        ensures { result ≡ true → TableAlone self.now.chain }
-    {
-        self.chain.count == 1 && self.table_first()
-    }
-
-    // Test 21, then the rows, by a table alone: it needs no scratch.
-    fn store_table(&self, strip: &mut [u8]) -> Result<(), Refusal>
-        requires { TableAlone self.now.chain × HoldsStrip self.now.chain strip.old }
-        ensures { Stored self.now strip.old result strip.new }
-    {
-        if !self.accept_first() {
-            return Err(Refusal::NoEntry);
-        }
-        self.pack_rows(strip);
-        Ok(())
-    }
-
-    // Test 21, then the rows, by whatever records.
-    fn store_steps(&self, strip: &mut [u8]) -> Result<(), Refusal>
-        requires { HoldsStrip self.now.chain strip.old }
-        ensures { Stored self.now strip.old result strip.new }
-    {
-        let mut scratch = Scratch {
-            row: [0; 65536],
-            rows: [0; 131072],
-        };
-        if !self.accepts(&mut scratch) {
-            return Err(Refusal::NoEntry);
-        }
-        self.store_rows(&mut scratch, strip);
-        Ok(())
-    }
-
-    fn store_strip(&self, strip: &mut [u8]) -> Result<(), Refusal>
-        requires { HoldsStrip self.now.chain strip.old }
-        ensures { Stored self.now strip.old result strip.new }
-    {
-        if self.table_alone() {
-            self.store_table(strip)
-        } else {
-            self.store_steps(strip)
         }
     }
 }
 
+impl<'a> Storing<'a> {
+    // Whether a table is the only record.
+    fn table_alone(&self) -> bool
+        ensures { result ≡ true → TableAlone self.now.opened self.now.opened.chain.count }
+    {
+        self.opened.chain.count == 1 && self.table_first()
+    }
+
+    // Test 21, then the rows. A table alone needs no scratch.
+    fn store_strip(&self, strip: &mut [u8]) -> Result<(), Refusal>
+        requires { HoldsStrip self.now.opened.chain strip.old }
+        ensures { Stored self.now strip.old result strip.new }
+    {
+        if self.table_alone() {
+            if !self.accept_first() {
+                return Err(Refusal::NoEntry);
+            }
+            self.accepted_by(self.opened.chain.count).pack_rows(strip);
+        } else {
+            let mut scratch = Scratch {
+                row: [0; 65536],
+                rows: [0; 131072],
+            };
+            if !self.accepts(&mut scratch) {
+                return Err(Refusal::NoEntry);
+            }
+            self.accepted_by(self.opened.chain.count)
+                .store_rows(&mut scratch, strip);
+        }
+        Ok(())
+    }
+}
+
 // Tests 1 to 8 and 21, then the rows.
+#[tactic(auto, unfolding(format::specs::Calls::store_answer, format::specs::Calls::store_strip))]
 pub fn store(
     width: usize,
     height: usize,
@@ -102,6 +89,6 @@ pub fn store(
     ensures strip_after { strip.new ≡ store_strip width height chain.now «data».now
         picture.now strip.old }
 {
-    let read = open(width, height, chain, data, picture, strip)?;
-    Storing::new(read, data, picture).store_strip(strip)
+    let opened = open(width, height, chain, data, picture, strip)?;
+    Storing::new(opened, picture).store_strip(strip)
 }

@@ -24,6 +24,15 @@ pub struct Paint {
 }
 
 impl<'a> Stored<'a> {
+    pub fn one_pixel(chain: &'a [u8], data: &'a [u8]) -> Self {
+        Stored {
+            width: 1,
+            height: 1,
+            chain,
+            data,
+        }
+    }
+
     pub fn by_predictor(width: u32, height: u32, data: &'a [u8]) -> Self {
         Stored {
             width,

@@ -25,19 +25,9 @@ pub fn deltas(rt: &impl Print) -> io::Result<()> {
 }
 
 pub fn pixels(rt: &impl Print) -> io::Result<()> {
-    let color = Stored {
-        width: 1,
-        height: 1,
-        chain: &COLOR,
-        data: &[32, 0, 32, 0],
-    };
+    let color = Stored::one_pixel(&COLOR, &[32, 0, 32, 0]);
     color.both(rt, "color", &mut [10, 32, 5, 9], &mut [165; 4])?;
-    let green = Stored {
-        width: 1,
-        height: 1,
-        chain: &SUBTRACT_GREEN,
-        data: b"",
-    };
+    let green = Stored::one_pixel(&SUBTRACT_GREEN, b"");
     green.both(rt, "subtract green", &mut [250, 10, 255, 7], &mut [165; 4])
 }
 

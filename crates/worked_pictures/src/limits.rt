@@ -46,33 +46,23 @@ fn too_wide(rt: &impl Print) -> io::Result<()> {
     )
 }
 
-fn one_by_one(
-    rt: &impl Print,
-    name: &str,
-    chain: &[u8],
-    data: &[u8],
-    image: &mut [u8],
-) -> io::Result<()> {
-    let stored = Stored {
-        width: 1,
-        height: 1,
-        chain,
-        data,
-    };
-    stored.both(rt, name, image, &mut [165; 4])
-}
-
 fn largest(rt: &impl Print) -> io::Result<()> {
     let chain = [3, 0, 0, 1, 0, 0, 0, 0, 0, 4, 0, 0, 0, 0, 0, 0];
     let mut entries = [0u8; 1024];
     entries[1020..].copy_from_slice(&[1, 2, 3, 4]);
-    let mut image = [0, 255, 0, 255];
-    one_by_one(rt, "size 256, last entry", &chain, &entries, &mut image)
+    let stored = Stored::one_pixel(&chain, &entries);
+    stored.both(
+        rt,
+        "size 256, last entry",
+        &mut [0, 255, 0, 255],
+        &mut [165; 4],
+    )
 }
 
 fn too_large(rt: &impl Print) -> io::Result<()> {
     let chain = [3, 0, 1, 1, 0, 0, 0, 0, 4, 4, 0, 0, 0, 0, 0, 0];
-    one_by_one(rt, "size 257", &chain, &[0; 1028], &mut [0, 0, 0, 0])
+    let stored = Stored::one_pixel(&chain, &[0; 1028]);
+    stored.both(rt, "size 257", &mut [0, 0, 0, 0], &mut [165; 4])
 }
 
 pub fn limits(rt: &impl Print) -> io::Result<()> {

@@ -29,15 +29,12 @@ pub fn past_size(rt: &impl Print) -> io::Result<()> {
     )
 }
 
-// Entry i is i, 255, 255, 255, for the indices that are used.
+// Entry i is i, 255, 255, 255.
 fn entries() -> [u8; 68] {
     let mut table = [255u8; 68];
-    table[0] = 0;
-    table[4] = 1;
-    table[8] = 2;
-    table[12] = 3;
-    table[60] = 15;
-    table[64] = 16;
+    for (i, entry) in (0u8..).zip(table.chunks_exact_mut(4)) {
+        entry[0] = i;
+    }
     table
 }
 
@@ -67,13 +64,7 @@ pub fn bundles(rt: &impl Print) -> io::Result<()> {
 }
 
 pub fn empty_chain(rt: &impl Print) -> io::Result<()> {
-    let stored = Stored {
-        width: 1,
-        height: 1,
-        chain: b"",
-        data: b"",
-    };
-    stored.both(rt, "empty chain", &mut [1, 2, 3, 4], &mut [165; 5])
+    Stored::one_pixel(b"", b"").both(rt, "empty chain", &mut [1, 2, 3, 4], &mut [165; 5])
 }
 
 // 5 by 1 by a table, then a predictor over the two packed pixels, whose block follows the entries in the data.

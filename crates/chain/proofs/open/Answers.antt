@@ -4,7 +4,7 @@ use Rattle.chain.proofs.Valid.{records_few}
 use Rattle.chain.proofs.open.Goals as goal
 
 pub overflow_mul-strip_bytes : goal.overflow_mul-strip_bytes
-overflow_mul-strip_bytes c = omega (arith, records_few _ _ c.in_ok-read.ensures.read.valid)
+overflow_mul-strip_bytes c = omega (arith, records_few _ _ c.in_ok-read.read.valid)
 
 pub overflow_mul-strip_bytes-2 : goal.overflow_mul-strip_bytes-2
-overflow_mul-strip_bytes-2 c = omega (arith, records_few _ _ c.in_ok-read.ensures.read.valid)
+overflow_mul-strip_bytes-2 c = omega (arith, records_few _ _ c.in_ok-read.read.valid)

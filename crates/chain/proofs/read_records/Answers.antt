@@ -6,7 +6,7 @@ use Rattle.std.proofs.lemmas.Result.{err_from_is_err_and}
 use Rattle.format.specs.Chain.{width_at}
 use Rattle.format.specs.Refusals.{records_refusal}
 use Rattle.chain.proofs.Tabled.{checked_same, checked_known}
-use Rattle.chain.proofs.Records.{turn, record_refused, record_passed, steps_none, steps_more, width_more, width_fits, all_passed, all_read}
+use Rattle.chain.proofs.Records.{turn, record_refused, record_passed, steps_none, steps_more, width_more, width_fits, all_passed, all_of, all_valid}
 use Rattle.chain.proofs.Sizes.{whole_chain}
 use Rattle.chain.proofs.read_records.Goals as goal
 
@@ -45,8 +45,13 @@ returns-clause-refusal c =
     let r = c.requires in
     sym (all_passed _ _ _ _ c.loop-k.k c.loop-k.invariant.0 (search rules) (whole_chain _ _ _ _ r.0 r.1 r.2))
 
+pub invariant_of-result : goal.invariant_of-result
+invariant_of-result c =
+    let l = c.loop-k in
+    let r = c.requires in
+    record { valid = all_valid _ _ _ _ l.k _ l.invariant.0 l.invariant.3 l.invariant.1 (omega (arith, l.auto.k-end)) refl refl refl (whole_chain _ _ _ _ r.0 r.1 r.2) }
+
 pub returns-clause-read : goal.returns-clause-read
 returns-clause-read c =
     let l = c.loop-k in
-    let r = c.requires in
-    all_read _ _ _ _ l.k _ l.invariant.0 l.invariant.3 l.invariant.1 (omega (arith, l.auto.k-end)) refl refl refl (whole_chain _ _ _ _ r.0 r.1 r.2)
+    record { of = all_of _ _ _ _ l.k _ l.invariant.0 l.invariant.3 l.invariant.1 (omega (arith, l.auto.k-end)) refl refl refl; on = refl }

@@ -7,4 +7,4 @@ use Rattle.rebuild.proofs.rebuild.Given as goal
 
 abbrev pub invariant-loop-k : goal.invariant-loop-k
 invariant-loop-k l =
-    Rebuilt l.chain l.width l.height l.data l.k l.image ≡ Rebuilt l.chain l.width l.height l.data (record_count l.chain) l.initial.image
+    Rebuilt l.width l.height l.chain l.data l.k l.image ≡ Rebuilt l.width l.height l.chain l.data (record_count l.chain) l.initial.image

@@ -1,24 +1,22 @@
--- `make_row` meets its contract: before each turn the columns before x are made, and a turn takes them to the end of a
--- block.
-use Rattle.std.proofs.Common.{◌≡◌, refl, ◌∙◌, arith}
-use Rattle.pixel.proofs.Blocks.{block_there}
+-- `make_row` meets its contract: before each turn the columns of the blocks before block k are made.
+use Rattle.std.proofs.Common.{◌≡◌, ◌^◌, arith}
+use Rattle.format.specs.Picture.{ceiling}
+use Rattle.pixel.proofs.Blocks.{start_none, start_last}
 use Rattle.pixel.proofs.Rows.{run_zero}
 use Rattle.color.proofs.Blocks.{block_more}
 use Rattle.color.proofs.color.make_row.Goals as goal
 
-pub loop-x-init : goal.loop-x-init
-loop-x-init g c = (omega arith, refl, run_zero _ _)
+pub loop-k-init : goal.loop-k-init
+loop-k-init g c = let b = c.args.blocks.now in rw (start_none b.width b.bits) (run_zero _ _)
 
-pub pixel_at-requires : goal.pixel_at-requires
-pixel_at-requires g c = omega (arith, block_there c.args.width c.args.bits c.loop-x.x (omega arith))
-
-pub loop-x-preserved : goal.loop-x-preserved
-loop-x-preserved g c =
-    let l = c.loop-x.invariant in (
-      omega arith,
-      c.make_segment.auto.row ∙ l.1,
-      block_more g.D.Direction.rule _ _ _ _ _ _ c.pixel_at.ensures c.block_end-end.ensures _ _ _ l.2 c.make_segment.ensures,
-    )
+pub loop-k-preserved : goal.loop-k-preserved
+loop-k-preserved g c =
+    let b = c.args.blocks.now in
+    let l = c.loop-k in
+    block_more g.D.Direction.rule b.width b.bits l.k b.bytes.now _ c.at.ensures _ _ _ l.invariant (rw (c.start.ensures, c.start-in-loop-k.ensures) at c.make_segment.ensures)
 
 pub returns : goal.returns
-returns g c = let l = c.loop-x.invariant in let e : c.loop-x.x ≡ c.args.width = omega arith in rw e at l.2
+returns g c =
+    let b = c.args.blocks.now in
+    let last : c.loop-k.k ≡ ceiling b.width (2 ^ b.bits) = omega arith in
+    rw (last, start_last b.width b.bits) at c.loop-k.invariant

@@ -9,7 +9,9 @@ use Rattle.color.proofs.color.store_row.Goals as goal
 pub returns : goal.returns
 unfolding color_stored
 returns c =
-    let a = c.args in
-    held (in_picture transform_color a.width a.bits (pixels a.blocks.now)) _ a.y a.width _ _ c.make_row.ensures
-    (row_blocks transform_color a.width a.bits a.y a.blocks.now _ c.blocks_of_row.ensures.holds)
-    c.requires.width_in_bounds
+    let b = c.args.blocks.now in
+    let r = c.row.ensures in
+    held (in_picture transform_color b.width b.bits (pixels b.bytes.now)) _ c.args.y b.width _ _
+    (rw (← r.same.0, ← r.same.1) c.make_row.ensures)
+    (row_blocks transform_color b.width b.bits c.args.y b.bytes.now _ r.holds)
+    c.requires.0

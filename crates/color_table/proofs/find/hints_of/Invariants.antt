@@ -4,4 +4,4 @@ use Rattle.color_table.specs.Hints.{Linked}
 use Rattle.color_table.proofs.find.hints_of.Given as goal
 
 abbrev pub invariant-loop-i : goal.invariant-loop-i
-invariant-loop-i l = Linked l.i l.size (pixels l.entries) l.hints
+invariant-loop-i l = Linked l.i l.entries.size (pixels l.entries.bytes.now) l.hints

@@ -1,20 +1,14 @@
--- `scan` meets its contract: before each turn no entry before i equals w.
-use mathlib.Core.Path.{sym, ◌∙◌}
-use native.Mathlib.Omega.{arith}
+-- `scan` meets its contract: no entry before the first that equals w does.
+use Rattle.std.proofs.Common.{rules, tests, ◌≡◌, true, false}
+use Rattle.std.proofs.lemmas.Iterator.{first_from_Range}
+use Rattle.format.specs.Pixel.{equal}
 use Rattle.format.specs.Picture.{pixels}
-use Rattle.color_table.proofs.Index.{scan_more, scan_found, scan_none}
+use Rattle.color_table.proofs.Index.{scanned}
 use Rattle.color_table.proofs.find.scan.Goals as goal
 
-pub loop-i-init : goal.loop-i-init
-loop-i-init c j l = absurd (omega arith)
-
-pub returns-then-eq : goal.returns-then-eq
-returns-then-eq c =
-    scan_found _ _ _ _ c.loop-i.invariant c.loop-i-test.true (rw c.at.ensures at (sym c.eq.ensures ∙ c.if-eq.true))
-
-pub loop-i-preserved : goal.loop-i-preserved
-loop-i-preserved c =
-    scan_more c.args.size (pixels c.args.entries.now) c.args.w c.loop-i.i c.loop-i.invariant (rw c.at.ensures at (sym c.eq.ensures ∙ c.if-eq.false))
-
 pub returns : goal.returns
-returns c = scan_none _ _ _ _ c.loop-i.invariant c.loop-i-test.false
+returns c =
+    let e = pixels c.args.entries.now in
+    let w = c.args.w in
+    scanned c.args.size e w _
+    (first_from_Range _ _ _ _ (λ i. equal (e i) w ≡ true) (λ i. equal (e i) w ≡ false) c.find.ensures.ran (λ x q k. search (rules, tests)) (λ x q k. search (rules, tests)))

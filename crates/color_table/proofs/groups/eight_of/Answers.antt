@@ -1,11 +1,7 @@
 -- `eight_of` meets its contract: where `all` is true, the first k pixels are a or b.
-use native.Mathlib.Omega.{arith}
 use Rattle.format.specs.Picture.{pixels}
 use Rattle.color_table.proofs.Index.{each_more}
 use Rattle.color_table.proofs.groups.eight_of.Goals as goal
-
-pub loop-k-init : goal.loop-k-init
-loop-k-init c t k l = absurd (omega arith)
 
 pub loop-k-preserved : goal.loop-k-preserved
 loop-k-preserved c =

@@ -1,21 +1,24 @@
--- `pass` meets its contract: before each turn the pixels from `from` to i are a or b.
-use mathlib.Core.Path.{◌≡◌}
-use Prim.Native.Nat.{◌+◌}
-use native.Mathlib.Omega.{arith}
+-- `pass` meets its contract: the groups before the first that has another pixel are a or b.
+use Rattle.std.proofs.Common.{rules, tests, ℕ, ◌*◌, ◌/◌, ◌<◌, ◌≤◌, arith}
+use Rattle.std.specs.Bool.{⊤}
+use Rattle.std.proofs.lemmas.Iterator.{first_from_Range}
 use Rattle.format.specs.Picture.{pixels}
-use Rattle.color_table.proofs.Index.{each_next}
+use Rattle.color_table.specs.OneOf.{EachOf}
+use Rattle.color_table.proofs.Index.{each_groups, before_first}
 use Rattle.color_table.proofs.groups.pass.Goals as goal
+use Rattle.color_table.proofs.groups.pass.Goals.{After-unwrap_or}
 
-pub loop-i-init : goal.loop-i-init
-loop-i-init c = (omega arith, omega arith, omega arith, (λ k l. absurd (omega arith)))
+passed : (c : After-unwrap_or) → let a = c.args.from / 16 in (a ≤ c.unwrap_or.result) × (c.unwrap_or.result ≤ c.args.to / 16)
+    × ((g : ℕ) → a ≤ g → g < c.unwrap_or.result → EachOf c.args.a c.args.b (pixels c.args.row.now) (16 * g) 16)
+passed c =
+    let Group = λ (g : ℕ). EachOf c.args.a c.args.b (pixels c.args.row.now) (16 * g) 16 in
+    rw c.unwrap_or.ensures (before_first Group _ _ _ (omega arith)
+    (first_from_Range _ _ _ _ (λ g. ⊤) Group c.find-other.ensures.ran (λ x q k. tt) (λ x q k. search (rules, tests))))
 
-pub loop-i-preserved : goal.loop-i-preserved
-loop-i-preserved c =
-    let l = c.loop-i in
-    (omega arith, omega arith, omega arith, each_next _ _ (pixels c.args.row.now) c.args.from l.i 16 l.invariant.1 l.invariant.3 (c.group_of.ensures c.if-not-group_of.false))
+pub overflow_mul-result : goal.overflow_mul-result
+overflow_mul-result c = omega (arith, (passed c).1)
 
-pub returns-else-not-group_of : goal.returns-else-not-group_of
-returns-else-not-group_of c =
-    let l = c.loop-i in
-    let e : l.i + 16 ≡ c.args.to = omega arith in
-    (omega arith, omega arith, omega arith, rw e at (each_next _ _ (pixels c.args.row.now) c.args.from l.i 16 l.invariant.1 l.invariant.3 (c.group_of.ensures c.if-not-group_of.false)))
+pub returns : goal.returns
+returns c =
+    let p = passed c in
+    (omega arith, omega arith, omega arith, each_groups _ _ (pixels c.args.row.now) _ (c.args.from / 16) _ (omega arith) p.2)

@@ -1,18 +1,8 @@
 -- `move_four` meets its contract: four pixels are read and put.
 use mathlib.Core.Path.{◌∙◌}
-use native.Mathlib.Omega.{arith}
 use Rattle.pixel.specs.Cells.{pixel_cells}
 use Rattle.color_table.proofs.Records.{four_given}
 use Rattle.color_table.proofs.unpack.move_four.Goals as goal
-
-pub put_pixel-requires-2 : goal.put_pixel-requires-2
-put_pixel-requires-2 c = omega (arith, c.requires.0, c.put_pixel.auto.xs)
-
-pub put_pixel-requires-3 : goal.put_pixel-requires-3
-put_pixel-requires-3 c = omega (arith, c.requires.0, c.put_pixel.auto.xs, c.put_pixel-2.auto.xs)
-
-pub put_pixel-requires-4 : goal.put_pixel-requires-4
-put_pixel-requires-4 c = omega (arith, c.requires.0, c.put_pixel.auto.xs, c.put_pixel-2.auto.xs, c.put_pixel-3.auto.xs)
 
 pub returns : goal.returns
 returns c f h =

@@ -1,4 +1,4 @@
--- `repeated_index` meets its contract: before each turn `byte` holds k indices.
+-- Before each turn `byte` holds as many indices as there were turns.
 use mathlib.Core.Path.{◌≡◌}
 use Prim.Native.Nat.{◌<◌, ◌^◌}
 use Rattle.format.specs.ColorTable.{digits}

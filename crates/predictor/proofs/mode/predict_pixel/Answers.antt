@@ -1,16 +1,7 @@
 -- `predict_pixel` meets its contract: modes other than 0 and 11 go channel by channel.
 use Rattle.std.proofs.Common.{sym, arith}
-use Rattle.format.specs.Predictor.{predict}
 use Rattle.predictor.proofs.Bytewise.{predict_channels}
 use Rattle.predictor.proofs.mode.predict_pixel.Goals as goal
-
-pub returns-in-0 : goal.returns-in-0
-unfolding predict
-returns-in-0 c = rw c.in-0.is
-
-pub returns-in-11 : goal.returns-in-11
-unfolding predict
-returns-in-11 c = rw c.in-11.is c.select.ensures
 
 pub returns-in_default : goal.returns-in_default
 returns-in_default c =

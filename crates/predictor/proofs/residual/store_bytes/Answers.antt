@@ -9,8 +9,7 @@ use Rattle.predictor.proofs.residual.store_bytes.Goals as goal
 pub returns : goal.returns
 unfolding given
 returns g c =
-    let a = c.args in
-    let p = c.requires in
-    bytes_lost g.row.MODE a.w p.channelwise p.in_columns.wide a.rows.now a.from a.to _ _
-    (c.replace.ensures (given (byte_residual g.row.MODE (4 * a.w) (byte_at a.rows.now))) (λ ys i v n l u q. search rules))
-    p.in_columns.off
+    let s = c.args.segment in
+    let rows = c.args.rows.now in
+    bytes_lost g.row.MODE s.width c.requires.0 s.from s.to s.inside.0 s.inside.2 _ _ rows
+    (c.replace.ensures (given (byte_residual g.row.MODE (4 * s.width) (byte_at rows))) (λ ys i v n l u q. search rules))

@@ -1,27 +1,20 @@
--- `rebuild_row` meets its contract: before each turn column 0 and the columns up to x are rebuilt.
-use Rattle.std.proofs.Common.{◌≡◌, ◌+◌, ◌-◌, ◌∙◌, arith, rules}
-use Rattle.pixel.proofs.Cells.{run_none, run_next}
-use Rattle.predictor.proofs.Blocks.{run_first}
+-- `rebuild_row` meets its contract: before each turn column 0 and the columns of the blocks before are rebuilt.
+use Rattle.std.proofs.Common.{◌≡◌, ◌∙◌, arith}
+use Rattle.predictor.specs.Row.{segment_start}
+use Rattle.predictor.proofs.Blocks.{gained_one, gained_more}
 use Rattle.predictor.proofs.row.rebuild_row.Goals as goal
 
-pub loop-x-init : goal.loop-x-init
-loop-x-init c = (search rules, search rules, search rules, run_none _ _ _ _)
+pub loop-block-init : goal.loop-block-init
+loop-block-init c =
+    let b = c.args.blocks.now in
+    let one : segment_start b.width b.bits 0 ≡ 1 = omega arith in
+    rw one (gained_one b.width b.bits b.bytes.now c.args.rows.now _ _ _ c.put_pixel.ensures (c.add_pixels-first.ensures ∙ cc))
 
-pub loop-x-preserved : goal.loop-x-preserved
-loop-x-preserved c =
-    let l = c.loop-x.invariant in
-    let b = c.rebuild_block-x.ensures in (
-      search rules,
-      search rules,
-      search rules,
-      run_next _ _ _ _ _ _ _ _ (omega arith) (omega arith) l.3 b.rows_after,
-    )
-
-pub returns : goal.returns
-returns c =
-    let l = c.loop-x in
-    let a = c.add_pixels-first.ensures in
-    let s = c.args in
-    let e : l.x ≡ s.width = omega arith in
-    let w : s.width + l.x - s.width ≡ s.width = omega arith in
-    rw w at (run_next _ _ _ _ _ _ _ _ (omega arith) (omega arith) (run_first _ _ _ _ _ _ c.put_pixel.ensures (a ∙ cc)) l.invariant.3)
+pub loop-block-preserved : goal.loop-block-preserved
+loop-block-preserved c =
+    let b = c.args.blocks.now in
+    let s = c.of.result in
+    let e = c.of.ensures in
+    let before = rw (← e.from) at c.loop-block.invariant in
+    let turn = rw e.width at c.rebuild_segment.ensures in
+    rw e.to at (gained_more b.width b.bits b.bytes.now _ _ _ s.from s.to s.mode e.mode s.inside.1 before turn)

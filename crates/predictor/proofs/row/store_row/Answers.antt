@@ -1,30 +1,20 @@
--- `store_row` meets its contract: before each turn column 0 and the columns up to x are stored.
-use Rattle.std.proofs.Common.{◌≡◌, ◌∙◌, arith, rules}
-use Rattle.format.specs.Picture.{pixels}
-use Rattle.pixel.proofs.Cells.{run_none, run_next}
-use Rattle.pixel.proofs.Rows.{run_then}
-use Rattle.predictor.proofs.Blocks.{given_first}
+-- `store_row` meets its contract: before each turn column 0 and the columns of the blocks before are stored.
+use Rattle.std.proofs.Common.{◌≡◌, ◌∙◌, arith}
+use Rattle.predictor.specs.Row.{segment_start}
+use Rattle.predictor.proofs.Blocks.{lost_one, lost_more}
 use Rattle.predictor.proofs.row.store_row.Goals as goal
 
-pub loop-x-init : goal.loop-x-init
-loop-x-init c = (search rules, search rules, search rules, run_none _ _ _ _)
+pub loop-block-init : goal.loop-block-init
+loop-block-init c =
+    let b = c.args.blocks.now in
+    let one : segment_start b.width b.bits 0 ≡ 1 = omega arith in
+    rw one (lost_one b.width b.bits b.bytes.now c.args.out.now _ _ c.args.rows.now _ c.put_pixel.ensures (c.subtract_pixels-first.ensures ∙ cc))
 
-pub loop-x-preserved : goal.loop-x-preserved
-loop-x-preserved c =
-    let l = c.loop-x.invariant in
-    let b = c.store_block-x.ensures in (
-      search rules,
-      search rules,
-      search rules,
-      run_next _ _ _ _ _ _ _ _ (omega arith) (omega arith) l.3 b.out_after,
-    )
-
-pub returns : goal.returns
-returns c =
-    let l = c.loop-x in
-    let a = c.args in
-    let e : l.x ≡ a.width = omega arith in
-    run_then _ _ _ _ _ _ _
-    (given_first a.width a.bits (pixels a.blocks.now) (pixels a.rows.now) _ _ _ c.put_pixel.ensures (c.subtract_pixels-first.ensures ∙ cc))
-    (rw e at l.invariant.3)
-    (omega arith)
+pub loop-block-preserved : goal.loop-block-preserved
+loop-block-preserved c =
+    let b = c.args.blocks.now in
+    let s = c.of.result in
+    let e = c.of.ensures in
+    let before = rw (← e.from) at c.loop-block.invariant in
+    let turn = rw e.width at c.store_segment.ensures in
+    rw e.to at (lost_more b.width b.bits b.bytes.now _ _ _ s.from s.to s.mode e.mode s.inside.1 c.args.rows.now before turn)

@@ -6,8 +6,6 @@ use Rattle.predictor.proofs.segment.add_above.Goals as goal
 
 pub returns : goal.returns
 returns g c =
-    let a = c.args in
-    let p = c.requires in
-    bytes_gained g.row.MODE a.w p.channelwise p.segment.wide a.from a.to _ _
-    (c.replace.ensures (byte_gains g.row.MODE (4 * a.w)) (λ ys i v n l u q. search rules))
-    p.segment.off
+    let s = c.args.segment in
+    bytes_gained g.row.MODE s.width c.requires.0 s.from s.to s.inside.0 s.inside.2 _ _
+    (c.replace.ensures (byte_gains g.row.MODE (4 * s.width)) (λ ys i v n l u q. search rules))

@@ -1,7 +1,6 @@
 -- `retouch` meets its contract, test by test.
-use native.Mathlib.Omega.{arith}
 use Rattle.std.proofs.lemmas.Result.{err_from_is_err_and}
-use Rattle.retouch.proofs.Answers.{refused_pair, refused_outside, index_inside, index_small, answered}
+use Rattle.retouch.proofs.Answers.{refused_pair, refused_outside, answered}
 use Rattle.retouch.proofs.retouch.retouch.Goals as goal
 
 pub returns-in_err-opened : goal.returns-in_err-opened
@@ -14,20 +13,6 @@ pub returns-then-width-at : goal.returns-then-width-at
 returns-then-width-at c =
     let a = refused_outside _ _ _ _ _ _ _ _ c.args.color c.in_ok-opened.ensures.refusal c.then-width-at.either in
     record { value = a.0; picture_after = a.1.0; strip_after = a.1.1 }
-
-pub index-requires : goal.index-requires
-index-requires c =
-    omega (arith, index_small _ _ _ _ _ _ _ _ c.args.color c.in_ok-opened.ensures.refusal _ c.in_ok-opened.ensures.opened c.if-width-at.false c.if-height-at.false)
-
-pub retouch_valid-requires : goal.retouch_valid-requires
-retouch_valid-requires c =
-    let o = c.in_ok-opened.ensures.opened in
-    record {
-      valid = o.valid;
-      held = o.held;
-      room = o.room;
-      inside = rw c.index.ensures (index_inside _ _ _ _ _ _ _ _ c.args.color c.in_ok-opened.ensures.refusal _ o c.if-width-at.false c.if-height-at.false);
-    }
 
 pub returns : goal.returns
 returns c =

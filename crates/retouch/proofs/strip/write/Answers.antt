@@ -1,14 +1,14 @@
--- `write` meets its contract: before each turn the strip has the records of the spots from place k on.
+-- `write` meets its contract.
 use native.Mathlib.Omega.{arith}
-use Rattle.retouch.proofs.Writing.{from_none, from_more, from_all}
+use lib.ListN.{length-append}
+use Rattle.std.proofs.lemmas.Slice.Zip.{zip_turn}
+use Rattle.retouch.proofs.Writing.{to_none, to_more}
 use Rattle.retouch.proofs.strip.write.Goals as goal
 
-pub loop-k-init : goal.loop-k-init
-loop-k-init c = from_none _ _ _ _ (omega arith)
+pub loop-r-init : goal.loop-r-init
+loop-r-init c = to_none _ _ _ _ (omega arith)
 
-pub loop-k-preserved : goal.loop-k-preserved
-loop-k-preserved c =
-    from_more _ _ _ _ _ _ _ c.loop-k.invariant (omega arith) (omega arith) c.write_inside.ensures
-
-pub returns : goal.returns
-returns c = from_all _ _ _ _ _ _ c.loop-k.invariant (omega arith)
+pub loop-r-preserved : goal.loop-r-preserved
+loop-r-preserved c =
+    let t = zip_turn c.args.records.now c.args.made c.loop-r.yielded _ _ c.next.new.self _ (cc) (cc) c.loop-r.yielded_by _ c.in-Some.is c.next.ensures.steps in
+    rw length-append (to_more _ _ _ _ _ _ _ _ _ c.loop-r.invariant t.0 (t.2 0) (t.3 _) c.write_inside.ensures)

@@ -1,6 +1,7 @@
--- `write` meets its contract: before each turn the strip has the records of the spots from place k on.
-use Rattle.retouch.proofs.Writing.{WrittenFrom}
+-- Before each turn the strip has the records of the spots so far.
+use lib.ListN.{length}
+use Rattle.retouch.proofs.Writing.{WrittenTo}
 use Rattle.retouch.proofs.strip.write.Given as goal
 
-abbrev pub invariant-loop-k : goal.invariant-loop-k
-invariant-loop-k l = WrittenFrom l.records l.n l.made l.initial.strip l.k l.strip
+abbrev pub invariant-loop-r : goal.invariant-loop-r
+invariant-loop-r l = WrittenTo l.records l.n l.fn.made l.initial.strip (length l.yielded) l.strip

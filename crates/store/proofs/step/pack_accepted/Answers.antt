@@ -6,12 +6,6 @@ use Rattle.store.proofs.Lent.{copied_back}
 use Rattle.store.proofs.Packed.{packed_few}
 use Rattle.store.proofs.step.pack_accepted.Goals as goal
 
-pub pack_row-requires-clause-in_bounds : goal.pack_row-requires-clause-in_bounds
-pack_row-requires-clause-in_bounds c =
-    let r = c.requires.room in
-    let f = packed_few c.args.lookup.now.size c.args.width r.0 r.1 in
-    (r.0, r.1, omega (arith, r.1, r.2), omega (arith, r.3))
-
 pub returns : goal.returns
 returns c =
     let l = c.args.lookup.now in

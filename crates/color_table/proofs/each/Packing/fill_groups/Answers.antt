@@ -4,13 +4,9 @@ use native.Mathlib.Omega.{arith}
 use Prim.Native.Nat.{◌+◌, ◌*◌, ◌/◌, ◌-◌}
 use Rattle.pixel.specs.Cells.{given}
 use Rattle.color_table.specs.Pack.{plain}
-use Rattle.color_table.proofs.Digits.{base_in}
 use Rattle.color_table.proofs.Index.{all_more}
 use Rattle.color_table.proofs.Records.{groups_none, group_next}
 use Rattle.color_table.proofs.each.Packing.fill_groups.Goals as goal
-
-pub nonzero_div-m : goal.nonzero_div-m
-nonzero_div-m g c = (base_in c.args.self.now).places.some
 
 pub loop-g-init : goal.loop-g-init
 loop-g-init g c = record { all = λ q l u. absurd (omega arith); wrote = groups_none _ _ _ _ }

@@ -3,27 +3,20 @@ use mathlib.Core.Path.{refl}
 use Prim.Native.Nat.{◌<◌}
 use Rattle.format.specs.ColorTable.{range}
 use native.Mathlib.Omega.{arith}
-use Rattle.format.specs.Picture.{pixels}
-use Rattle.color_table.specs.Packed.{table_of}
 use Rattle.color_table.proofs.Digits.{base_in}
-use Rattle.color_table.proofs.Index.{taken_entry, taken_below}
-use Rattle.color_table.proofs.Records.{uniform_of}
+use Rattle.color_table.proofs.Records.{entry_there, index_is, uniform_of}
 use Rattle.color_table.proofs.each.Packing.last_of.Goals as goal
 use Rattle.color_table.proofs.each.Packing.last_of.Goals.{After-index}
 
 -- its index is below the table's size and the range
 small : (g : _) → (c : After-index g) → (c.index.result < 256) × (c.index.result < range g.row.N)
 small g c =
-    let p = c.args.self.now in
-    let b = base_in p in
-    let f = b.fits in
-    let m = b.most in
-    let i = taken_below p.lookup.now.size (table_of p) (pixels p.row.now) p.width c.args.x _ _ p.packs.taken c.at-word.ensures c.index.ensures c.requires in
-    (omega arith, omega arith)
+    let m = (base_in c.args.self.now).most in
+    let i = (index_is c.args.self.now _ _ c.at-word.ensures c.requires _ c.index.ensures).1 in
+    (omega arith, i)
 
 pub index-requires : goal.index-requires
-index-requires g c =
-    taken_entry _ _ _ c.args.self.now.width c.args.x _ c.args.self.now.packs.taken c.at-word.ensures c.requires
+index-requires g c = entry_there c.args.self.now _ _ c.at-word.ensures c.requires
 
 pub overflow_cast-i : goal.overflow_cast-i
 overflow_cast-i g c = omega (arith, small g (goal.at.overflow_cast-i g c).After-index)

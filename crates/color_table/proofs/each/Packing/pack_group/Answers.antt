@@ -6,9 +6,6 @@ use Rattle.color_table.proofs.Digits.{base_in}
 use Rattle.color_table.proofs.Records.{group_columns, groups_columns}
 use Rattle.color_table.proofs.each.Packing.pack_group.Goals as goal
 
-pub nonzero_div-m : goal.nonzero_div-m
-nonzero_div-m g c = (base_in c.args.self.now).places.some
-
 pub put_inside-requires : goal.put_inside-requires
 put_inside-requires g c =
     let m = 16 / g.row.N in

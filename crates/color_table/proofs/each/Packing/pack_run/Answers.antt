@@ -30,11 +30,11 @@ turn m g groups l = mul-le-mul_right {m = g + 1} {n = groups} m (omega arith)
 pub returns-then-groups-g : goal.returns-then-groups-g
 returns-then-groups-g g c =
     let f = c.fill_groups-g.ensures in
-    (omega arith, f.1, c.requires.last_of, filled c.args.self.now c.args.last _ _ _ c.requires.last_of (omega arith) f.0 f.2)
+    (omega arith, f.1, c.requires.last, filled c.args.self.now c.args.last _ _ _ c.requires.last (omega arith) f.0 f.2)
 
 pub returns : goal.returns
 returns g c =
     let r = c.fill_groups-g.result in
     let f = c.fill_groups-g.ensures in
     let e = c.last_of.ensures in
-    (omega arith, omega arith, e.1, rw e.0 (group_next _ _ _ r _ _ _ (filled c.args.self.now c.args.last r _ _ c.requires.last_of (omega arith) f.0 f.2) c.pack_group.ensures f.0))
+    (omega arith, omega arith, e.1, rw e.0 (group_next _ _ _ r _ _ _ (filled c.args.self.now c.args.last r _ _ c.requires.last (omega arith) f.0 f.2) c.pack_group.ensures f.0))

@@ -15,9 +15,6 @@ use Rattle.color_table.proofs.each.Packing.put.Goals as goal
 all : {n : ℕ} (p : Packing n) → div_ceil p.width n ≡ record_count p
 all {n} p = rw (← p.packs.places) (by_places (λ m. div_ceil p.width m ≡ ceiling p.width m) (omega arith) (omega arith) (omega arith) (omega arith) n (base_in p).places)
 
-pub div_ceil-requires : goal.div_ceil-requires
-div_ceil-requires g c = (base_in c.args.self.now).places.some
-
 pub put_each-requires : goal.put_each-requires
 put_each-requires g c =
     let d = c.div_ceil.ensures ∙ all c.args.self.now in

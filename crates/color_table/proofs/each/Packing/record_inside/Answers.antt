@@ -1,14 +1,8 @@
 -- `record_inside` meets its contract: its indices are the row's.
-use native.Mathlib.Omega.{arith}
 use Prim.Native.Nat.{◌+◌, ◌*◌}
 use Rattle.color_table.specs.Packed.{index_in_row}
-use Rattle.color_table.proofs.Records.{record_is, inside_count, record_inside}
+use Rattle.color_table.proofs.Records.{record_is, inside_count}
 use Rattle.color_table.proofs.each.Packing.record_inside.Goals as goal
-
-pub record-requires : goal.record-requires
-record-requires g c =
-    let p = c.args.self.now in
-    (omega arith, ((λ k l. (omega arith, record_inside p.width g.row.N c.args.j c.requires k l)), λ k r l post. post.1))
 
 pub returns : goal.returns
 returns g c =

@@ -4,6 +4,7 @@ use Prim.Native.Nat.{◌+◌, ◌-◌, ◌/◌}
 use native.Mathlib.Nat.{div-le_self}
 use native.Mathlib.Omega.{arith}
 use Rattle.format.specs.Picture.{pixels}
+use Rattle.pixel.proofs.Cells.{pixel_lawful}
 use Rattle.color_table.specs.Unpack.{row_of}
 use Rattle.color_table.proofs.Rows.{row_same}
 use Rattle.color_table.proofs.unpack.Unpacking.put_rest.Goals as goal
@@ -13,6 +14,6 @@ returns g c e h =
     let n = g.row.N in
     let s = c.args in
     let z : s.first + s.width - (s.first + s.from) ≡ s.width - s.from = omega arith in
-    rw z at (c.replace_back.ensures (row_of n e (pixels s.part.now) s.first) (λ ys i v len a b before post.
+    rw z at (c.replace_back.ensures pixel_lawful (row_of n e (pixels s.part.now) s.first) (λ ys i v len a b before post.
     let m : s.first + (i - s.first) ≡ i = omega arith in
     rw m at (post e h) ∙ row_same n e (pixels ys.now) (pixels s.part.now) s.first i (before ((i - s.first) / n) (omega (arith, div-le_self (i - s.first) n)))))

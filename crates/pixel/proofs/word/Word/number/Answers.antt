@@ -1,6 +1,6 @@
 -- `number` meets its contract: a number of 32 bits is that of its pixel.
-use mathlib.Core.Path.{sym, ap, ◌∙◌}
-use Rattle.pixel.specs.Word.{number, number-unword}
+use mathlib.Core.Path.{sym}
+use Rattle.pixel.specs.Word.{number-unword}
 use Rattle.pixel.proofs.word.Word.number.Goals as goal
 
 pub returns : goal.returns

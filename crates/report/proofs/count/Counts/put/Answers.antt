@@ -10,4 +10,4 @@ pub returns : goal.returns
 unfolding given
 returns c =
     let g = at c.args.self.now.numbers in
-    counters_run c.args.n g _ _ (search (rules, c.replace.ensures (given (counter_byte g)) (λ ys i v n a b p. search rules))) (omega (arith, c.requires))
+    counters_run c.args.self.now.size g _ _ (search (rules, c.replace.ensures (given (counter_byte g)) (λ ys i v n a b p. search rules))) (omega (arith, c.requires))

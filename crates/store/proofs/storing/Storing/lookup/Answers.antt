@@ -10,4 +10,4 @@ returns c =
     let s = c.args.self.now in
     let b = c.unwrap.result.now in
     let e : s.table ≡ Some b = search rules in
-    looks_only _ _ s.valid b (s.found.at b e) (s.found.looks b e) _ c.requires
+    looks_only _ b (s.found.at b e) (s.found.looks b e) _ c.requires

@@ -1,7 +1,0 @@
--- `residual_0` meets its contract: its prediction is line 0 of the table of modes.
-use Rattle.format.specs.Predictor.{predict}
-use Rattle.predictor.proofs.residual.residual_0.Goals as goal
-
-pub returns : goal.returns
-unfolding predict
-returns c = cc

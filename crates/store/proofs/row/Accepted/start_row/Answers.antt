@@ -1,0 +1,31 @@
+-- `start_row` meets its contract.
+use mathlib.Core.List.{List}
+use mathlib.Core.Path.{ap, ◌∙◌}
+use Prim.Native.Nat.{ℕ}
+use native.Mathlib.Omega.{arith}
+use lib.ListN.{length}
+use Rattle.format.specs.Picture.{pixels}
+use Rattle.chain.proofs.Valid.{after_fits}
+use Rattle.store.specs.Made.{chain_of}
+use Rattle.store.proofs.Lent.{front_back}
+use Rattle.store.proofs.Stages.{started_none}
+use Rattle.store.proofs.row.Accepted.start_row.Goals as goal
+
+pub pack_first-requires-clause-inside : goal.pack_first-requires-clause-inside
+pack_first-requires-clause-inside c =
+    let t = c.table_first.ensures c.if-table_first.true in
+    let p = c.requires in
+    (p.0, omega (arith, after_fits _ _ (chain_of c.args.self.now).valid 1 t.below, p.1))
+
+pub returns : goal.returns
+returns c =
+    let a = c.args.self.now in
+    let r = c.picture_row-from.ensures in
+    let z = c.copy_from_slice.new.self in
+    let e = c.copy_from_slice.ensures.after in
+    let n = (chain_of a).valid.sized.narrow in
+    let o = c.requires.1 in
+    started_none a _ _
+    (λ x l. front_back (length c.picture_row-from.result.now) c.args.row.now z x (ap (λ (ys : List ℕ). length ys) e ∙ omega arith) (omega arith) (omega arith)
+    ∙ ap (λ (ys : List ℕ). pixels ys x) e
+    ∙ r.0 x l)

@@ -1,6 +1,0 @@
--- `make_row` meets its contract: before each turn the row is that of stage k.
-use Rattle.store.specs.Turns.{RowIn, AboveIn}
-use Rattle.store.proofs.storing.Storing.make_row.Given as goal
-
-abbrev pub invariant-loop-k : goal.invariant-loop-k
-invariant-loop-k l = RowIn l.self l.k l.y l.scratch.row × AboveIn l.self l.m l.k l.y l.scratch.rows

@@ -1,5 +1,6 @@
 // The calls for the Rust host, over numbers and byte slices. Each contract gives the refusal by its number and every
-// byte of every lent buffer, on every input. `letchwater_c` exports them.
+// byte of every lent buffer, on every input. Width, height, chain and data stand apart, as in the papers' calls, whose
+// parameters the definitions name. `letchwater_c` exports them.
 #![tactic(auto)]
 
 ghost use Rattle.std.specs.Prelude.{◌≡◌};
@@ -20,7 +21,8 @@ use retouch::changes::Changes;
 use retouch::retouch::retouch;
 use store::store::store;
 
-// The number that a call returns to the host: 0 where it is not refused.
+// The number that a call returns to the host: 0 where it is not refused. It is no plainer with the next in one: `()` has
+// no number by `From`.
 pub fn number(outcome: Result<(), Refusal>) -> u32
     ensures { result ≡ returned outcome }
 {

@@ -9,7 +9,7 @@ use color_table::lookup::Lookup;
 use pixel::word::Word;
 
 // How many pixels were found at each index of a list of colors, and at none of them, which is the list's size: the
-// first `size` numbers.
+// first `size` numbers, in an array since there is no heap.
 #[derive(Clone, Copy)]
 pub struct Counts {
     pub numbers: [u64; 257],

@@ -49,7 +49,8 @@ impl<'a> Storing<'a> {
         self.opened.chain.count == 1 && self.table_first()
     }
 
-    // Test 21, then the rows. A table alone needs no scratch.
+    // Test 21, then the rows. A table alone needs no scratch. That the strip has room is asked: a struct around the lent
+    // strip would have to say what of it stays.
     fn store_strip(&self, strip: &mut [u8]) -> Result<(), Refusal>
         requires { HoldsStrip self.now.opened.chain strip.old }
         ensures { Stored self.now strip.old result strip.new }

@@ -11,7 +11,7 @@ use Rattle.format.specs.Refusals.{input_refusal}
 use Rattle.format.proofs.Valid.{valid_sized, valid_count, valid_step, valid_once}
 use Rattle.format.proofs.Stages.{width_record, narrowed_fewer, narrowed_pos}
 use Rattle.chain.specs.declared.Chain.{Chain}
-use Rattle.chain.specs.Valid.{Valid, steps_of, width_after, pixels_in, records_in}
+use Rattle.chain.specs.Valid.{Valid, steps_of, width_after, records_in}
 use Rattle.chain.specs.Reading.{ChainOf}
 
 module _ (c : Chain) (ds : List ℕ) (v : Valid c ds) where
@@ -37,10 +37,7 @@ module _ (c : Chain) (ds : List ℕ) (v : Valid c ds) where
   pub strip_fits : c.strip.0 ≤ 16384
   strip_fits = rw v.strip (after_fits c.count (le_refl c.count))
 
-  -- pixels and records can be counted
-  pub pixels_few : pixels_in c ≤ 16384 * 16384
-  pixels_few = mul-le-mul v.sized.low v.sized.narrow
-
+  -- records can be counted
   pub records_few : records_in c ≤ 16384 * 16384
   records_few = mul-le-mul v.sized.low strip_fits
 

@@ -4,7 +4,7 @@ ghost use Rattle.format.specs.Sizes.{Sized};
 ghost use Rattle.format.specs.Chain.{kind_of};
 ghost use Rattle.format.specs.Stages.{data_of};
 ghost use Rattle.format.specs.ValidStep.{ValidStep};
-ghost use Rattle.chain.specs.Valid.{Valid, steps_of};
+ghost use Rattle.chain.specs.Valid.{Valid, steps_of, pixels_in, records_in};
 
 use crate::Chain;
 use format::{Step, TransformType};
@@ -38,6 +38,20 @@ pub fn part_of(data: &[u8], s: Step) -> &[u8]
 }
 
 impl<'a> ValidChain<'a> {
+    // How many pixels the picture has.
+    pub fn pixels(&self) -> usize
+        ensures { (result ≡ pixels_in self.now.chain) × (result ≤ 268435456) }
+    {
+        self.chain.height * self.chain.width.0
+    }
+
+    // How many records the strip has.
+    pub fn records(&self) -> usize
+        ensures { (result ≡ records_in self.now.chain) × (result ≤ 268435456) }
+    {
+        self.chain.height * self.chain.strip.0
+    }
+
     // Record k.
     pub fn record(&self, k: usize) -> Record<'a>
         requires { k < self.now.chain.count }
@@ -67,7 +81,8 @@ impl<'a> Record<'a> {
         part_of(self.data, self.step)
     }
 
-    // Its blocks.
+    // Its blocks. Blocks and entries are asked for where the kind is known: an enum that has them would be matched once
+    // more wherever a caller holds the record's number alone.
     pub fn blocks(&self) -> Blocks<'a>
         requires { self.now.step.kind ≤ 1 }
         ensures { (result.width ≡ self.now.step.width) × (result.height ≡ self.now.height)

@@ -1,5 +1,5 @@
 -- Pixels made each from the pixel that stands in its place.
-use Rattle.std.specs.Prelude.{◌≡◌, ℕ, ◌-◌, ◌*◌, ◌/◌, ◌%◌, ◌^◌, List}
+use Rattle.std.specs.Prelude.{ℕ, ◌-◌, ◌*◌, ◌/◌, ◌%◌, ◌^◌, List}
 use Rattle.format.specs.declared.Pixel.{Pixel}
 use Rattle.format.specs.Picture.{Picture, pixels, block}
 use Rattle.format.specs.Color.{inverse_color, color_stored}
@@ -25,13 +25,6 @@ in_picture t w bits d q v = t (block w bits d (q % w) (q / w)) v
 -- pixels from a up to b by t
 abbrev pub made_by : (Pixel → Pixel) → ℕ → ℕ → List ℕ → List ℕ
 made_by t a b xs = run pixel_cells (pointwise (everywhere t)) a (b - a) xs
-
--- what the loop over these asks of the function that it is given, and takes from it
-abbrev pub AskedEach : (Pixel → Type 0) → Type 0
-AskedEach pre = (v : Pixel) → pre v
-
-abbrev pub GivesEach : (Pixel → Pixel → Type 0) → (Pixel → Pixel) → Type 0
-GivesEach post t = (v u : Pixel) → post v u → u ≡ t v
 
 -- a row's first n columns by the data of its blocks
 abbrev pub row_made : (Pixel → Pixel → Pixel) → ℕ → ℕ → List ℕ → List ℕ → List ℕ

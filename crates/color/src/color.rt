@@ -6,10 +6,11 @@ ghost use Rattle.format.specs.Sizes.{Holds};
 ghost use Rattle.color.specs.Factors.{PixelBy};
 ghost use Rattle.color.specs.Row.{made_by, row_made, color_row, ColorRowStored};
 
-use crate::each::make_each;
 use crate::factor::Factors;
 use format::Pixel;
 use pixel::block::{BlockRow, Blocks};
+use pixel::replace::update;
+use pixel::row::row_bytes;
 
 // Rebuilding or storing. The two bodies are no plainer as one: they add or subtract, and blue is made of the red before
 // or after.
@@ -69,7 +70,7 @@ fn make_segment<D: Direction>(row: &mut [u8], from: usize, to: usize, e: Pixel)
     ensures { row.new ≡ made_by (D.rule e) from to row.old }
 {
     let factors = Factors::from(e);
-    make_each(row, from, to, |v: Pixel| D::make(factors, v));
+    update(row, from, to, |v: Pixel| D::make(factors, v));
 }
 
 // A row, with the data pixels of its blocks.
@@ -82,14 +83,13 @@ fn make_row<D: Direction>(row: &mut [u8], blocks: &BlockRow)
     }
 }
 
-// Row y of the picture, in its place there.
+// Row y of the picture, in its place there. That the image has room is asked here: facts about a lent buffer stay
+// beside it.
 pub fn rebuild_row_at(image: &mut [u8], blocks: &Blocks, y: usize)
     requires { Holds blocks.now.width blocks.now.height image.old × (y < blocks.now.height) }
     ensures { image.new ≡ color_row blocks.now.width blocks.now.bits blocks.now.bytes.now y image.old }
 {
-    let a = 4 * (y * blocks.width);
-    let b = a + 4 * blocks.width;
-    make_row::<Rebuild>(&mut image[a..b], &blocks.row(y));
+    make_row::<Rebuild>(&mut image[row_bytes(y, blocks.width)], &blocks.row(y));
 }
 
 // Row y of the picture, in a buffer of its own.

@@ -2,6 +2,5 @@
 #![tactic(auto)]
 
 pub mod color;
-mod each;
 mod factor;
 pub mod subtract_green;

@@ -3,8 +3,9 @@ ghost use Rattle.std.specs.Prelude.{◌≡◌, ◌+◌, ◌*◌, ◌≤◌, leng
 ghost use Rattle.format.specs.SubtractGreen.{add_green, subtract_green};
 ghost use Rattle.color.specs.Row.{green_row, GreenRowStored};
 
-use crate::each::make_each;
 use format::Pixel;
+use pixel::replace::update;
+use pixel::row::row_bytes;
 
 fn rebuild_pixel(v: Pixel) -> Pixel
     ensures { result ≡ add_green v }
@@ -34,15 +35,14 @@ pub fn rebuild_row_at(image: &mut [u8], width: usize, y: usize)
     requires { 4 * (y * width + width) ≤ length image.old }
     ensures { image.new ≡ green_row width y image.old }
 {
-    let a = 4 * (y * width);
-    let b = a + 4 * width;
-    make_each(&mut image[a..b], 0, width, |v: Pixel| rebuild_pixel(v));
+    let row = &mut image[row_bytes(y, width)];
+    update(row, 0, width, |v: Pixel| rebuild_pixel(v));
 }
 
-// A row of the picture, in a buffer of its own.
+// A row of the picture, in a buffer of its own, which is longer: the row is lent whole, as a field of the scratch.
 pub fn store_row(row: &mut [u8], width: usize)
     requires { 4 * width ≤ length row.old }
     ensures { GreenRowStored width row.old row.new }
 {
-    make_each(row, 0, width, |v: Pixel| store_pixel(v));
+    update(row, 0, width, |v: Pixel| store_pixel(v));
 }

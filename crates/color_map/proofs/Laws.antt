@@ -1,12 +1,12 @@
 -- What the two loops over a color map leave, byte by byte.
-use Rattle.std.proofs.Common.{◌≡◌, ℕ, zero, suc, ◌-◌, ◌<◌, ◌≤◌, List, length, set, sym, ap, ◌∙◌, arith}
+use Rattle.std.proofs.Common.{◌≡◌, ℕ, zero, suc, ◌-◌, ◌<◌, ◌≤◌, List, length, sym, ap, ◌∙◌, arith}
 use native.Mathlib.Decide.{dec_lt}
-use Rattle.format.specs.Byte.{add, sub}
+use Rattle.format.specs.Byte.{add}
 use Rattle.format.specs.Picture.{byte_at, written_bytes}
 use Rattle.format.specs.ColorMap.{adjusted, unadjusted}
-use Rattle.format.proofs.ColorMap.{adjusted_at, adjusted_start, unadjusted_start, unadjusted_at}
+use Rattle.format.proofs.ColorMap.{adjusted_at, adjusted_start, unadjusted_start}
 use Rattle.pixel.specs.Cells.{byte_cells, Rule, run, given}
-use Rattle.pixel.proofs.Cells.{byte_lawful, length_run, run_before, run_after, run_at, run_kept, run_prepend}
+use Rattle.pixel.proofs.Cells.{byte_lawful, length_run, run_before, run_after, run_at, run_kept}
 use Rattle.pixel.proofs.Front.{bytes_are}
 
 abbrev pub gains : Rule ℕ

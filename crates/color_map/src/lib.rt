@@ -11,7 +11,8 @@ ghost use Rattle.format.specs.ColorMap.{color_map_answer, adjust_color_map, unad
 use format::Refusal;
 use pixel::replace::{replace, replace_back};
 
-// Adjusts the color map, which is stored as differences: front to back, so that each byte gains an adjusted one.
+// Adjusts the color map, which is stored as differences: front to back, so that each byte gains an adjusted one. This
+// and undoing it are two functions, since one would take the order and the gain or loss as parameters.
 fn adjust(color_map: &mut [u8])
     requires { 4 ≤ length color_map.old }
     ensures { color_map.new ≡ written_bytes (length color_map.old)

@@ -92,8 +92,8 @@ pub shifted : (n b : ℕ) → Places n → b < 256 → b * 2 ^ (8 / n) % 4294967
 shifted n b h l = by_places (λ m. b * 2 ^ (8 / m) % 4294967296 ≡ b * range m) (omega arith) (omega arith) (omega arith) (omega arith) n h
 
 -- what is known of a packing's N
-pub base_in : {n : ℕ} → (p : Packing n) → Base p.lookup.now.size n (range n)
-base_in {n} p = base_of p.lookup.now.size n (range n) p.lookup.now.table.most p.packs.places refl
+pub base_in : {n : ℕ} → (p : Packing n) → Base p.lookup.now.entries.size n (range n)
+base_in {n} p = base_of p.lookup.now.entries.size n (range n) p.lookup.now.entries.most p.packs.places refl
 
 -- a range and its size
 pub ranged : (size : ℕ) → size ≤ 256 → (range (per_pixel size) ≡ range (per_pixel size)) × (1 ≤ range (per_pixel size)) × (size ≤ range (per_pixel size)) × (range (per_pixel size) ≤ 256)

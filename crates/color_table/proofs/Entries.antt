@@ -5,14 +5,13 @@ use Prim.Native.Nat.{ℕ, ◌+◌, ◌*◌, ◌/◌, ◌%◌, ◌^◌, ◌<◌, 
 use native.Mathlib.Nat.{mod-lt}
 use native.Mathlib.Decide.{ℕ_discrete, dec_lt}
 use native.Mathlib.Omega.{arith}
-use borrow.Author.Tests.{lt-ltb, le-ltb}
 use lib.Arith.{digits_div, digits_mod}
 use lib.ListN.{length, get_or, set, replicate, get_or-replicate, get_or-eq_default}
 use lib.Seq.{get_or-set_same, get_or-set_other}
 use Rattle.format.specs.declared.Pixel.{Pixel}
 use Rattle.format.specs.Pixel.{clear}
 use Rattle.format.specs.Picture.{Picture, pixels}
-use Rattle.format.specs.ColorTable.{range, index_in, entry}
+use Rattle.format.specs.ColorTable.{range, index_in}
 use Rattle.pixel.specs.Cells.{pixel_cells, run, given}
 use Rattle.pixel.specs.Stride.{Places}
 use Rattle.pixel.proofs.Blocks.{row_there}
@@ -50,14 +49,6 @@ module _ (t : List (List ℕ)) (i : ℕ) (r : List ℕ) where
 
   pub clear_more : ((j : ℕ) → i ≤ j → entry_in t j ≡ clear) → (j : ℕ) → i + 1 ≤ j → entry_in (set t i r) j ≡ clear
   clear_more h j k = entry_other j (λ e. omega arith) ∙ h j (omega arith)
-
--- all entries are there
-pub padded_whole : (size i : ℕ) (e : Picture) (t : List (List ℕ)) → ((j : ℕ) → j < i → entry_in t j ≡ e j) → ((j : ℕ) → i ≤ j → entry_in t j ≡ clear) → i ≡ size → TableOf (entry size e) t
-padded_whole size i e t h z q = record { at = λ j l. go j (dec_lt j size) }
-  where
-    go : (j : ℕ) → Dec (j < size) → entry_in t j ≡ entry size e j
-    go j (yes k) = rw (lt-ltb j size k) (h j (omega arith))
-    go j (no k) = let g : size ≤ j = omega arith in rw (le-ltb j size g) (z j (omega arith))
 
 -- the columns of every byte
 

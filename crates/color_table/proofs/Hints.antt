@@ -19,7 +19,7 @@ use Rattle.color_table.specs.Found.{found}
 use Rattle.color_table.proofs.Index.{found_at, found_none}
 use Rattle.color_table.specs.Hints.{slot_of, in_slot, link, Toward, Linked, Hints}
 
-pub slot_below : (v : Pixel) → slot_of v < 4096
+slot_below : (v : Pixel) → slot_of v < 4096
 unfolding slot_of
 slot_below v = omega arith
 
@@ -136,9 +136,6 @@ abbrev pub Leads : ℕ → Picture → Pixel → ℕ → Type 0
 Leads size e v i = (j : ℕ) → j < size → e j ≡ v → Toward e 0 i j
 
 module _ (size : ℕ) (e : Picture) (hints : List ℕ) (h : Hints size e hints) (v : Pixel) where
-  pub leads_slot : Leads size e v (in_slot hints (slot_of v))
-  leads_slot j l q = rw (← ap slot_of q) (h.first j (omega arith) l)
-
   -- past an entry that is not v
   past : (i j : ℕ) → Leads size e v i → equal (e i) v ≡ false → j < size → e j ≡ v → Toward e (suc i) (link hints i) j
   past i j f n l q =

@@ -1,25 +1,27 @@
 -- The lowest index of a pixel, by looking at each entry; pixels that are one of two; acceptance.
+use Rattle.std.proofs.lemmas.Bool.{and_from, and_parts}
 use Rattle.std.specs.Prelude.{if◌then◌else◌, Option, Some, None}
 use Rattle.std.specs.List.{range_with_len, list_all}
 use Rattle.std.specs.Bool.{⊤}
 use Rattle.std.specs.Option.{is_some, MatchOption, unwrap_or}
 use Rattle.std.proofs.lemmas.Option.{none-some, same_Some}
 use mathlib.Core.Bool.{Bool, true, false, not, ◌&&◌, ◌||◌, true≢false}
+use Rattle.std.proofs.Math.Bool.{and-true, and_comm, and_assoc}
 use mathlib.Core.Path.{◌≡◌, refl, sym, ap, ◌∙◌}
 use Prim.Native.Nat.{ℕ, zero, suc, ◌+◌, ◌-◌, ◌*◌, ◌/◌, ◌%◌, ◌<◌, ◌≤◌, min}
 use native.Mathlib.Nat.{zero-add, add-zero}
 use native.Mathlib.Decide.{ℕ_discrete, dec_lt}
 use native.Mathlib.Omega.{arith}
-use borrow.Author.Tests.{lt-ltb, le-ltb, ltb-true}
+use borrow.Author.Tests.{lt-ltb, le-ltb}
 use lib.Dec.{ltb}
 use mir.Val.{bool_byte}
 use Rattle.format.specs.declared.Pixel.{Pixel}
 use Rattle.format.specs.Pixel.{equal}
 use Rattle.format.specs.Picture.{Picture}
 use Rattle.format.specs.ColorTable.{index_of, has_entry, have_entries, index_at}
-use Rattle.format.proofs.Choice.{every_at, and_both, and_left, and_right, and_false_right}
+use Rattle.format.proofs.Choice.{every_at, and_false_right}
 use Rattle.format.proofs.Pixels.{equal_true, equal_refl}
-use Rattle.format.proofs.ColorTable.{index_inside, index_last, lowest_hit, lowest_least, index_least, index_is, index_none}
+use Rattle.format.proofs.ColorTable.{index_inside, lowest_hit, lowest_least, index_least, index_is, index_none}
 use Rattle.color_table.specs.OneOf.{one_of, EachOf}
 use Rattle.color_table.specs.Found.{found}
 
@@ -99,9 +101,6 @@ module _ (e : Picture) (v : Pixel) (size : ℕ) (has : index_of size e v < size)
           let t : s ≡ false = q ∙ ap (λ (x : Pixel). equal x v) p ∙ other (equal (e j) v) refl (omega arith) in
           rw (a, t, le-ltb (index_of size e v) (j + 1) b)
 
-pub none_before : (i : ℕ) → false ≡ ltb i 0
-none_before i = sym (le-ltb i 0 (omega arith))
-
 -- how many of j + 1 entries come before index i
 pub before_more : (i j r t : ℕ) (found : Bool) → r ≡ min i j → found ≡ ltb i (j + 1) → t ≡ bool_byte (not found) → r + t ≡ min i (j + 1)
 before_more i j r t found h q s = go (dec_lt i (j + 1))
@@ -132,11 +131,11 @@ module _ (u v : Pixel) (f : Picture) (i : ℕ) where
   each_more k all s t p h q a b r j l = go (ℕ_discrete j k)
     where
       go : Dec (j ≡ k) → one_of u v (f (i + j)) ≡ true
-      go (yes e) = rw (e, ← q, ← a, ← b) (and_right all (s || t) r)
-      go (no n) = h (and_left all (s || t) r) j (omega arith)
+      go (yes e) = rw (e, ← q, ← a, ← b) (and_parts all (s || t) r).1
+      go (no n) = h (and_parts all (s || t) r).0 j (omega arith)
 
   -- a test that both pass
-  pub each_passes : (n : ℕ) (t : Pixel → Bool) → EachOf u v f i n → t u ≡ true → t v ≡ true → (k : ℕ) → k < n → t (f (i + k)) ≡ true
+  each_passes : (n : ℕ) (t : Pixel → Bool) → EachOf u v f i n → t u ≡ true → t v ≡ true → (k : ℕ) → k < n → t (f (i + k)) ≡ true
   each_passes n t h a b k l = go (equal (f (i + k)) u) refl (equal (f (i + k)) v) refl (h k l)
     where
       go : (x : Bool) → equal (f (i + k)) u ≡ x → (y : Bool) → equal (f (i + k)) v ≡ y → (x || y) ≡ true → t (f (i + k)) ≡ true
@@ -152,8 +151,8 @@ pub each_both : (u v : Pixel) (f : Picture) (i : ℕ) (s t : Bool) → (s ≡ tr
 each_both u v f i s t h d r k l = go (dec_lt k 8)
   where
     go : Dec (k < 8) → one_of u v (f (i + k)) ≡ true
-    go (yes m) = h (and_left s t r) k m
-    go (no m) = let e : i + 8 + (k - 8) ≡ i + k = omega arith in rw e at (d (and_right s t r) (k - 8) (omega arith))
+    go (yes m) = h (and_parts s t r).0 k m
+    go (no m) = let e : i + 8 + (k - 8) ≡ i + k = omega arith in rw e at (d (and_parts s t r).1 (k - 8) (omega arith))
 
 -- groups of sixteen that are u or v each
 pub each_groups : (u v : Pixel) (f : Picture) (from a b : ℕ) → from ≡ 16 * a → ((g : ℕ) → a ≤ g → g < b → EachOf u v f (16 * g) 16) → EachOf u v f from (16 * b - from)
@@ -188,7 +187,7 @@ module _ (size : ℕ) (e f : Picture) where
   accepted_more : (i : ℕ) (u : Pixel) → have_entries size e i f ≡ true → u ≡ f i → has_entry size e u ≡ true → have_entries size e (i + 1) f ≡ true
   accepted_more i u h p t =
       let s : suc i ≡ i + 1 = omega arith in
-      ap (λ (n : ℕ). have_entries size e n f) (sym s) ∙ and_both (has_entry size e (f i)) (have_entries size e i f) (rw p at t) h
+      ap (λ (n : ℕ). have_entries size e n f) (sym s) ∙ and_from (has_entry size e (f i)) (have_entries size e i f) (rw p at t) h
 
   accepted_not : (m i : ℕ) (u : Pixel) → u ≡ f i → has_entry size e u ≡ false → i < m → false ≡ have_entries size e m f
   accepted_not m i u p h l = go (have_entries size e m f) refl
@@ -197,10 +196,10 @@ module _ (size : ℕ) (e f : Picture) where
       go false r = refl
       go true r = sym (rw p at h) ∙ every_at m (λ j. has_entry size e (f j)) i l r
 
-  -- looking at n pixels more
-  pub accepted_all : (n i : ℕ) → have_entries size e i f ≡ true → list_all (λ j. has_entry size e (f j)) (range_with_len i n) ≡ have_entries size e (i + n) f
-  accepted_all zero i h = rw (add-zero i) (sym h)
-  accepted_all (suc n) i h = go (has_entry size e (f i)) refl (accepted_all n (i + 1))
+  -- looking at n pixels more, and at the first n
+  looked_more : (n i : ℕ) → have_entries size e i f ≡ true → list_all (λ j. has_entry size e (f j)) (range_with_len i n) ≡ have_entries size e (i + n) f
+  looked_more zero i h = rw (add-zero i) (sym h)
+  looked_more (suc n) i h = go (has_entry size e (f i)) refl (looked_more n (i + 1))
     where
       Left : Bool
       Left = list_all (λ j. has_entry size e (f j)) (range_with_len (i + 1) n)
@@ -209,16 +208,30 @@ module _ (size : ℕ) (e f : Picture) where
       go true q ih = let s : i + 1 + n ≡ i + suc n = omega arith in rw s at (ih (accepted_more i (f i) h refl q))
       go false q ih = accepted_not (i + suc n) i (f i) refl q (omega arith)
 
+  pub accepted_all : (n : ℕ) → list_all (λ j. has_entry size e (f j)) (range_with_len 0 n) ≡ have_entries size e n f
+  accepted_all n = rw (zero-add n) at (looked_more n 0 refl)
+
+  -- those of a front, and those of the rest, h
+  pub accepted_join : (a m : ℕ) (h : Picture) → ((i : ℕ) → i < m → h i ≡ f (a + i)) → have_entries size e (a + m) f ≡ (have_entries size e a f && have_entries size e m h)
+  accepted_join a zero h q = rw (add-zero a) (sym (and-true (have_entries size e a f)))
+  accepted_join a (suc m) h q =
+      let s : a + suc m ≡ suc (a + m) = omega arith in
+      let x = has_entry size e (f (a + m)) in
+      let y = have_entries size e a f in
+      let z = have_entries size e m h in
+      let swap : (x && (y && z)) ≡ (y && (x && z)) = sym (and_assoc x y z) ∙ ap (λ b. b && z) (and_comm x y) ∙ and_assoc y x z in
+      rw (s, q m (omega arith), accepted_join a m h (λ i l. q i (omega arith))) swap
+
   -- n pixels more that have entries
-  pub accepted_has : (i n : ℕ) → EachHas size e f i n → have_entries size e i f ≡ true → have_entries size e (i + n) f ≡ true
+  accepted_has : (i n : ℕ) → EachHas size e f i n → have_entries size e i f ≡ true → have_entries size e (i + n) f ≡ true
   accepted_has i zero h t = rw (add-zero i) t
   accepted_has i (suc n) h t =
       let s : i + suc n ≡ suc (i + n) = omega arith in
       let r = accepted_has i n (λ k l. h k (omega arith)) t in
-      ap (λ (m : ℕ). have_entries size e m f) s ∙ and_both (has_entry size e (f (i + n))) (have_entries size e (i + n) f) (h n (omega arith)) r
+      ap (λ (m : ℕ). have_entries size e m f) s ∙ and_from (has_entry size e (f (i + n))) (have_entries size e (i + n) f) (h n (omega arith)) r
 
   -- n pixels more that are one of two
-  pub accepted_each : (u v : Pixel) (i n : ℕ) → EachOf u v f i n → have_entries size e i f ≡ true → has_entry size e u ≡ true → has_entry size e v ≡ true → have_entries size e (i + n) f ≡ true
+  accepted_each : (u v : Pixel) (i n : ℕ) → EachOf u v f i n → have_entries size e i f ≡ true → has_entry size e u ≡ true → has_entry size e v ≡ true → have_entries size e (i + n) f ≡ true
   accepted_each u v i n h t a b = accepted_has i n (each_passes u v f i n (has_entry size e) h a b) t
 
   pub accepted_front : (u v : Pixel) (n : ℕ) → EachOf u v f 0 (n - 0) → has_entry size e u ≡ true → has_entry size e v ≡ true → have_entries size e n f ≡ true
@@ -234,9 +247,6 @@ module _ (size : ℕ) (e f : Picture) where
       go : Dec (m ≡ suc n) → (m ≤ n → false ≡ have_entries size e n f) → false ≡ have_entries size e (suc n) f
       go (yes q) ih = sym (rw q at h)
       go (no q) ih = sym (and_false_right (has_entry size e (f n)) (have_entries size e n f) (sym (ih (omega arith))))
-
-  pub accepted_done : (i m : ℕ) → have_entries size e i f ≡ true → i ≡ m → true ≡ have_entries size e m f
-  accepted_done i m h q = sym (ap (λ (n : ℕ). have_entries size e n f) (sym q) ∙ h)
 
   -- the index at a column
   pub at_column : (w x r : ℕ) (u : Pixel) → r ≡ index_of size e u → u ≡ f x → x < w → r ≡ index_at w size e f 0 x

@@ -4,3 +4,4 @@ pub mod Index
 pub mod Hints
 pub mod Digits
 pub mod Records
+pub mod Fronts

@@ -1,22 +1,24 @@
 -- Records of a row: one by one, and in groups of sixteen pixels.
 use mathlib.Core.Bool.{true}
-use mathlib.Core.List.{List}
+use mathlib.Core.List.{List, [], ◌∷◌, map}
 use mathlib.Core.Path.{◌≡◌, refl, sym, ap, ◌∙◌}
 use Prim.Native.Nat.{ℕ, suc, ◌+◌, ◌-◌, ◌*◌, ◌/◌, ◌<◌, ◌≤◌}
 use native.Mathlib.Nat.{add-zero, mul_assoc, mul_comm, one-mul, mod-eq_of_lt, div-eq_of_lt, mul-le-mul_right, suc-mul, add-mul, le-div_iff_mul-le, mul-le-mul_left, div-le_self, div-mul-le_self}
 use native.Mathlib.Omega.{arith}
+use lib.ListN.{get_or, get_or-map}
 use Rattle.format.specs.declared.Pixel.{Pixel}
 use Rattle.format.specs.Pixel.{pixel}
 use Rattle.format.specs.Picture.{Picture, pixels, ceiling}
 use Rattle.format.specs.ColorTable.{per_pixel, range, packed_width, index_of, has_entry, index_at, digits, packed}
 use borrow.Author.Tests.{ltb-true}
 use Rattle.format.proofs.Choice.{every_at}
-use Rattle.format.proofs.ColorTable.{per_pixel_pos, digits_same, first_inside}
+use Rattle.format.proofs.ColorTable.{digits_same, index_inside, index_last}
 use Rattle.pixel.specs.Cells.{pixel_cells, Cells, Rule, run, given}
 use Rattle.pixel.proofs.Cells.{run_none, run_next}
 use Rattle.pixel.proofs.Rows.{run_then}
 use Rattle.color_table.specs.declared.each.Packing.{Packing}
-use Rattle.color_table.specs.Packed.{table_of, record_count, index_in_row, record_of}
+use Rattle.color_table.specs.Four.{four_of}
+use Rattle.color_table.specs.Packed.{width_of, table_of, record_count, index_in_row, record_of}
 use Rattle.color_table.specs.Pack.{uniform, plain}
 use Rattle.color_table.proofs.Digits.{base_in}
 use Rattle.color_table.proofs.Index.{at_column}
@@ -27,48 +29,46 @@ pub record_row : (w size : ℕ) (e f : Picture) (n j : ℕ) (v : Pixel) → v �
 unfolding packed
 record_row w size e f n j v q p l = q ∙ rw (p, mod-eq_of_lt l, div-eq_of_lt l)
 
--- its first position is a column
-pub record_first : (w size n j : ℕ) → n ≡ per_pixel size → j < packed_width size w → j * n < w
-record_first w size n j q l = rw q (first_inside w (per_pixel size) j (per_pixel_pos size) l)
-
--- a record inside the row
-pub record_inside : (w n j : ℕ) → (j + 1) * n ≤ w → (k : ℕ) → k < n → j * n + k < w
-record_inside w n j l k m = let s = add-mul j 1 n in let o = one-mul n in omega arith
-
 -- a pixel of the row p has an entry, and its index is that of its column
-module _ {n : ℕ} (p : Packing n) (x : ℕ) (v : Pixel) (at : v ≡ pixels p.row.now x) (inside : x < p.width) where
-  pub entry_there : has_entry p.lookup.now.size (table_of p) v ≡ true
+module _ {n : ℕ} (p : Packing n) (x : ℕ) (v : Pixel) (at : v ≡ pixels p.row.now x) (inside : x < (width_of p)) where
+  pub entry_there : has_entry p.lookup.now.entries.size (table_of p) v ≡ true
   entry_there =
-      rw at (every_at p.width (λ j. has_entry p.lookup.now.size (table_of p) (pixels p.row.now j)) x inside p.packs.taken)
+      rw at (every_at (width_of p) (λ j. has_entry p.lookup.now.entries.size (table_of p) (pixels p.row.now j)) x inside p.packs.taken)
 
-  pub index_there : index_of p.lookup.now.size (table_of p) v < p.lookup.now.size
-  index_there = ltb-true (index_of p.lookup.now.size (table_of p) v) p.lookup.now.size entry_there
+  pub index_there : index_of p.lookup.now.entries.size (table_of p) v < p.lookup.now.entries.size
+  index_there = ltb-true (index_of p.lookup.now.entries.size (table_of p) v) p.lookup.now.entries.size entry_there
 
-  pub index_is : (r : ℕ) → r ≡ index_of p.lookup.now.size (table_of p) v → (r ≡ index_in_row p x) × (r < range n)
+  pub index_is : (r : ℕ) → r ≡ index_of p.lookup.now.entries.size (table_of p) v → (r ≡ index_in_row p x) × (r < range n)
   index_is r q =
       let f = (base_in p).fits in
       let l = index_there in
-      (at_column p.lookup.now.size (table_of p) (pixels p.row.now) p.width x r v q at inside, omega arith)
+      (at_column p.lookup.now.entries.size (table_of p) (pixels p.row.now) (width_of p) x r v q at inside, omega arith)
+
+-- past the end of the row p stands the index of its last column
+pub index_past : {n : ℕ} (p : Packing n) (x : ℕ) → width_of p ≤ x → index_in_row p (width_of p - 1) ≡ index_in_row p x
+index_past p x l =
+    let w = width_of p in
+    let t = table_of p in
+    let f = pixels p.row.now in
+    let some = p.packs.wide in
+    index_inside w p.lookup.now.entries.size t f 0 (w - 1) (omega arith) ∙ sym (index_last w p.lookup.now.entries.size t f 0 x l)
+
+-- records of whole columns, over any width
+pub whole_records : (w n size j : ℕ) → n ≡ per_pixel size → 1 ≤ n → j * n ≤ w → j ≤ packed_width size w
+whole_records w n size j e s l = rw (← e) ((le-div_iff_mul-le {x = j} s).1 (omega arith))
 
 -- the records of the row p
 module _ {n : ℕ} (p : Packing n) where
   pub record_is : (j : ℕ) (v : Pixel) → v ≡ pixel 0 (digits (range n) n (λ k. index_in_row p (j * n + k))) 0 255 → j < record_count p → v ≡ record_of p j
-  record_is j v q l = record_row p.width p.lookup.now.size (table_of p) (pixels p.row.now) n j v q p.packs.places l
+  record_is j v q l = record_row (width_of p) p.lookup.now.entries.size (table_of p) (pixels p.row.now) n j v q p.packs.places l
 
   -- records whose columns are there
-  pub columns_count : (j : ℕ) → j * n ≤ p.width → j ≤ record_count p
-  columns_count j l =
-      let b = base_in p in
-      let s = b.places.some in
-      rw (← p.packs.places) ((le-div_iff_mul-le {x = j} s).1 (omega arith))
+  pub columns_count : (j : ℕ) → j * n ≤ width_of p → j ≤ record_count p
+  columns_count j l = whole_records (width_of p) n p.lookup.now.entries.size j p.packs.places (base_in p).places.some l
 
   -- a record inside the row
-  pub inside_count : (j : ℕ) → (j + 1) * n ≤ p.width → j < record_count p
+  pub inside_count : (j : ℕ) → (j + 1) * n ≤ width_of p → j < record_count p
   inside_count j l = let c = columns_count (j + 1) l in omega arith
-
--- one of four records inside the row
-pub four_inside : (w n j i : ℕ) → (j + 4) * n ≤ w → i ≤ j + 4 → i * n ≤ w
-four_inside w n j i l m = let p : i * n ≤ (j + 4) * n = mul-le-mul_right n m in omega arith
 
 -- the records of four at a time
 pub fours_inside : (w n j : ℕ) → j ≤ w / (4 * n) * 4 → j * n ≤ w
@@ -79,10 +79,24 @@ fours_inside w n j l =
     omega arith
 
 -- four cells replaced
+
 pub four_given : {P : Type 0} (c : Cells P) (f : ℕ → P) (j : ℕ) (xs₀ xs₁ xs₂ xs₃ xs₄ : List ℕ) (a b d e : P) → xs₁ ≡ c.put xs₀ j a → xs₂ ≡ c.put xs₁ (j + 1) b → xs₃ ≡ c.put xs₂ (j + 2) d → xs₄ ≡ c.put xs₃ (j + 3) e
     → a ≡ f j → b ≡ f (j + 1) → d ≡ f (j + 2) → e ≡ f (j + 3) → xs₄ ≡ run c (given f) j 4 xs₀
 unfolding run given
 four_given c f j xs₀ xs₁ xs₂ xs₃ xs₄ a b d e p q r s w x y z = let o = add-zero j in cc
+
+-- four values as a list, and each by its place in it
+
+pub four_is : {P : Type 0} (f : ℕ → P) (j : ℕ) (a b d e : P) → a ≡ f j → b ≡ f (j + 1) → d ≡ f (j + 2) → e ≡ f (j + 3) → ◌≡◌ {A = List P} (a ∷ b ∷ d ∷ e ∷ []) (four_of f j)
+four_is f j a b d e p q r s = rw (p, q, r, s) refl
+
+module _ {C P : Type 0} (value : C → P) (cells : List C) (f : ℕ → P) (j : ℕ) (h : map value cells ≡ four_of f j) where
+  pub four_at : (k : ℕ) (d : C) → value (get_or cells k d) ≡ get_or (four_of f j) k (value d)
+  four_at k d = sym (get_or-map value cells k d) ∙ ap (λ (l : List P). get_or l k (value d)) h
+
+  -- the same of an element that stands there
+  pub four_value : (k : ℕ) (a : C) → a ≡ get_or cells k a → value a ≡ get_or (four_of f j) k (value a)
+  four_value k a p = ap value p ∙ four_at k a
 
 -- the same record again
 

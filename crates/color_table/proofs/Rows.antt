@@ -65,10 +65,6 @@ module _ (n : ℕ) (c : List ℕ) (first : ℕ) where
   unfolding run
   columns_none x m xs e h = let z : m - m ≡ 0 = omega arith in rw z
 
-  -- the same by equal numbers
-  pub columns_done : (x m y k : ℕ) (xs ys : List ℕ) → Columns n c first x m xs ys → x ≡ y → m ≡ k → Columns n c first y k xs ys
-  columns_done x m y k xs ys r p q e h = rw (p, q) at (r e h)
-
 -- packed columns
 
 -- there are no more of them than expanded ones

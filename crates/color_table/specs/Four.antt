@@ -1,9 +1,6 @@
 -- Four values in a row.
-use Rattle.std.specs.Prelude.{◌≡◌, ℕ, ◌+◌}
+use Rattle.std.specs.Prelude.{List, [], ◌∷◌, ℕ, ◌+◌}
 
--- f has these four from j on
-pub record FourOf {P : Type 0} (f : ℕ → P) (j : ℕ) (a b c d : P) : Type 0 where
-  pub first : a ≡ f j
-  pub second : b ≡ f (j + 1)
-  pub third : c ≡ f (j + 2)
-  pub fourth : d ≡ f (j + 3)
+-- the four of f from j on
+abbrev pub four_of : {P : Type 0} → (ℕ → P) → ℕ → List P
+four_of f j = f j ∷ f (j + 1) ∷ f (j + 2) ∷ f (j + 3) ∷ []

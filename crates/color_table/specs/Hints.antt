@@ -3,7 +3,7 @@
 -- none.
 use Rattle.std.specs.Prelude.{List, ◌≡◌, ℕ, suc, ◌+◌, ◌*◌, ◌/◌, ◌%◌, ◌<◌, ◌≤◌, length}
 use Rattle.format.specs.declared.Pixel.{Pixel}
-use Rattle.format.specs.Picture.{Picture, byte_at, pixels}
+use Rattle.format.specs.Picture.{Picture, byte_at}
 use Rattle.pixel.specs.Word.{number}
 
 -- any function of the color would do
@@ -34,10 +34,3 @@ pub record Linked (a size : ℕ) (e : Picture) (hints : List ℕ) : Type 0 where
 
 abbrev pub Hints : ℕ → Picture → List ℕ → Type 0
 Hints size e hints = Linked 0 size e hints
-
--- a table with its hints
-pub record Table (size : ℕ) (entries hints : List ℕ) : Type 0 where
-  pub some : 1 ≤ size
-  pub most : size ≤ 256
-  pub there : 4 * size ≤ length entries
-  pub hinted : Hints size (pixels entries) hints

@@ -14,7 +14,7 @@ uniform u n size e v = pixel 0 (digits u n (λ k. index_of size e v)) 0 255
 
 -- the last pixel has its record
 abbrev pub LastOf : {n : ℕ} → Packing n → Last → Type 0
-LastOf {n} p last = last.packed ≡ uniform (range n) n p.lookup.now.size (pixels p.lookup.now.entries.now) last.word
+LastOf {n} p last = last.packed ≡ uniform (range n) n p.lookup.now.entries.size (pixels p.lookup.now.entries.bytes.now) last.word
 
 -- v at every index
 unfoldable pub plain : Pixel → Picture

@@ -1,6 +1,6 @@
 // Whether pixels have entries. Groups of sixteen pixels are compared with the pixel before them and their last one, and
 // each is looked up only where one differs from both.
-ghost use Rattle.std.specs.Prelude.{◌≡◌, true, ◌+◌, ◌*◌, ◌%◌, ◌≤◌, length};
+ghost use Rattle.std.specs.Prelude.{◌≡◌, true, ◌/◌, ◌%◌, length};
 ghost use Rattle.format.specs.Picture.{pixels};
 ghost use Rattle.format.specs.ColorTable.{has_entry, have_entries};
 
@@ -10,48 +10,49 @@ use pixel::word::Word;
 
 impl<'a> Lookup<'a> {
     fn has(&self, w: Word) -> bool
-        ensures { result ≡ has_entry self.now.size (pixels self.now.entries.now) w }
+        ensures { result ≡ has_entry self.now.entries.size (pixels self.now.entries.bytes.now) w }
     {
         self.find(w).is_some()
     }
 
-    // Whether each of the first `to` pixels has an entry, where those before `from` have.
-    fn accept_each(&self, row: &[u8], from: usize, to: usize) -> bool
-        requires inside { (from ≤ to) × (4 * to ≤ length row.now) }
-        requires before { have_entries self.now.size (pixels self.now.entries.now) from (pixels row.now) ≡ true }
-        ensures { result ≡ have_entries self.now.size (pixels self.now.entries.now) to (pixels row.now) }
+    // Whether each pixel has an entry, by looking up each.
+    fn accept_each(&self, part: &[u8]) -> bool
+        ensures { result ≡ have_entries self.now.entries.size (pixels self.now.entries.bytes.now) (length part.now / 4)
+            (pixels part.now) }
     {
-        (from..to).all(|i| self.has(Word::at(row, i)))
+        (0..part.len() / 4).all(|i| self.has(Word::at(part, i)))
     }
 
-    // Whether each of the first i + 16 pixels has an entry, where those before i have and a has one. Most groups are
-    // the pixel before them, a, or that and one color more: one branch for both, so that a change of color is not
-    // mispredicted.
-    fn accept_group(&self, row: &[u8], i: usize, a: Word) -> bool
-        requires inside { 4 * (i + 16) ≤ length row.now }
-        requires before { have_entries self.now.size (pixels self.now.entries.now) i (pixels row.now) ≡ true }
-        requires has { has_entry self.now.size (pixels self.now.entries.now) a ≡ true }
-        ensures { result ≡ have_entries self.now.size (pixels self.now.entries.now) (i + 16) (pixels row.now) }
+    // The same of sixteen pixels, where a has an entry. Most groups are the pixel before them, a, or that and one color
+    // more: one branch for both, so that a change of color is not mispredicted.
+    fn accept_group(&self, group: &[u8], a: Word) -> bool
+        requires sixteen { length group.now ≡ 64 }
+        requires has { has_entry self.now.entries.size (pixels self.now.entries.bytes.now) a ≡ true }
+        ensures { result ≡ have_entries self.now.entries.size (pixels self.now.entries.bytes.now) 16
+            (pixels group.now) }
     {
-        let c = Word::at(row, i + 15);
+        let c = Word::at(group, 15);
         let known = self.first_holds(c) | (c == a);
-        if known & group_of(row, i, a, c) {
+        if known & group_of(group, 0, a, c) {
             return true;
         }
-        self.accept_each(row, i, i + 16)
+        self.accept_each(group)
     }
 
-    // The same from the first pixel on, by groups. At first those of two entries are passed, so that no group of a
-    // picture of two colors is looked up.
-    fn accept_groups(&self, row: &[u8], count: usize) -> bool
-        requires { (count % 16 ≡ 0) × (4 * count ≤ length row.now) }
-        ensures { result ≡ have_entries self.now.size (pixels self.now.entries.now) count (pixels row.now) }
+    // The same of groups. At first those of two entries are passed, so that no group of a picture of two colors is
+    // looked up.
+    fn accept_groups(&self, row: &[u8]) -> bool
+        requires { length row.now % 64 ≡ 0 }
+        ensures { result ≡ have_entries self.now.entries.size (pixels self.now.entries.bytes.now) (length row.now / 4)
+            (pixels row.now) }
     {
-        let mut a = Word::at(self.entries, 0);
-        let from = pass(row, 0, count, a, Word::at(self.entries, self.size - 1));
-        // A `for`, since it carries a: no law of `all` goes through a closure that changes what it holds.
-        for g in from / 16..count / 16 {
-            if !self.accept_group(row, 16 * g, a) {
+        let entries = self.entries;
+        let mut a = Word::at(entries.bytes, 0);
+        let last = Word::at(entries.bytes, entries.size - 1);
+        let from = pass(row, 0, row.len() / 4, a, last);
+        // A `for`, since it carries a: no law of `all` is about a closure that changes what it holds.
+        for g in from / 16..row.len() / 64 {
+            if !self.accept_group(&row[64 * g..64 * g + 64], a) {
                 return false;
             }
             a = Word::at(row, 16 * g + 15);
@@ -59,12 +60,12 @@ impl<'a> Lookup<'a> {
         true
     }
 
-    // Whether each of the first `count` pixels has an entry.
-    pub fn accept(&self, row: &[u8], count: usize) -> bool
-        requires { 4 * count ≤ length row.now }
-        ensures { result ≡ have_entries self.now.size (pixels self.now.entries.now) count (pixels row.now) }
+    // Whether each pixel of the row has an entry.
+    pub fn accept(&self, row: &[u8]) -> bool
+        ensures { result ≡ have_entries self.now.entries.size (pixels self.now.entries.bytes.now) (length row.now / 4)
+            (pixels row.now) }
     {
-        let whole = count / 16 * 16;
-        self.accept_groups(row, whole) && self.accept_each(row, whole, count)
+        let whole = row.len() / 64 * 64;
+        self.accept_groups(&row[..whole]) && self.accept_each(&row[whole..])
     }
 }

@@ -1,5 +1,5 @@
 // Storing: records of a strip by looking up each pixel.
-ghost use Rattle.std.specs.Prelude.{◌≡◌, ℕ, ◌+◌, ◌-◌, ◌*◌, ◌<◌, ◌≤◌, length};
+ghost use Rattle.std.specs.Prelude.{◌≡◌, true, ℕ, ◌+◌, ◌-◌, ◌*◌, ◌<◌, ◌≤◌, length};
 ghost use Rattle.format.specs.Pixel.{pixel};
 ghost use Rattle.format.specs.Picture.{pixels};
 ghost use Rattle.format.specs.ColorTable.{range, digits};
@@ -7,19 +7,27 @@ ghost use Rattle.color_table.specs.Row.{Row};
 
 use crate::lookup::Lookup;
 use pixel::replace::replace;
+use pixel::stride::Expanded;
 use pixel::word::Word;
 
-// A row of `width` pixels that have entries, N of whose indices go into a record.
+// A row of pixels that have entries, N of whose indices go into a record.
 #[derive(Drop)]
 pub(crate) struct Packing<'a, const N: usize> {
     pub(crate) lookup: &'a Lookup<'a>,
     pub(crate) row: &'a [u8],
-    pub(crate) width: usize,
-    pub(crate) ghost packs: { Row lookup.now.size width N lookup.now.entries.now row.now },
+    pub(crate) ghost packs: { Row lookup.now.entries N row.now },
 }
 
 impl<'a, const N: usize> Packing<'a, N> {
-    ghost use Rattle.color_table.specs.Packed.{record_count, index_in_row, record_of, RecordsOf};
+    ghost use Rattle.color_table.specs.Packed.{width_of, record_count, index_in_row, record_of, RecordsOf};
+
+    // The columns of the row.
+    #[inline(always)]
+    pub(crate) fn width(&self) -> Expanded
+        ensures { result.0 ≡ width_of self.now }
+    {
+        Expanded(self.row.len() / 4)
+    }
 
     // The record of N indices, lowest first.
     #[inline(always)]
@@ -39,82 +47,62 @@ impl<'a, const N: usize> Packing<'a, N> {
     // The index of column x.
     #[inline(always)]
     fn index_inside(&self, x: usize) -> u32
-        requires { x < self.now.width }
+        requires { x < width_of self.now }
         ensures { (result ≡ index_in_row self.now x) × (result < range N) }
     {
         let row = self.row;
         self.lookup.index(Word::at(row, x)) as u32
     }
 
-    // The index at position x: its column's or, past the row's end, the last column's.
-    fn index_at(&self, x: usize) -> u32
+    // The index at position x: its column's or, past the row's end, the last column's. Where all positions are INSIDE,
+    // none is tested for the row's end; so in the functions below.
+    #[inline(always)]
+    fn index_at<const INSIDE: bool>(&self, x: usize) -> u32
+        requires { INSIDE ≡ true → x < width_of self.now }
         ensures { (result ≡ index_in_row self.now x) × (result < range N) }
     {
-        if x < self.width {
+        // By `|` the proof has what both tests say; by `||` it would have to take them apart.
+        if INSIDE | (x < self.width().0) {
             self.index_inside(x)
         } else {
-            self.index_inside(self.width - 1)
+            self.index_inside(self.width().0 - 1)
         }
     }
 
     // Record j.
-    fn record_at(&self, j: usize) -> Word
-        requires { j < record_count self.now }
-        ensures { result ≡ record_of self.now j }
-    {
-        let a = j * N;
-        self.record(
-            |k: usize|
-                requires { a + k ≤ 32768 }
-                ensures { (result ≡ index_in_row self.entry.now (a + k)) × (result < range N) }
-            { self.index_at(a + k) },
-        )
-    }
-
-    // The same where it is inside the row.
     #[inline(always)]
-    fn record_inside(&self, j: usize) -> Word
-        requires { (j + 1) * N ≤ self.now.width }
+    fn record_at<const INSIDE: bool>(&self, j: usize) -> Word
+        requires there { j < record_count self.now }
+        requires inside { INSIDE ≡ true → (j + 1) * N ≤ width_of self.now }
         ensures { result ≡ record_of self.now j }
     {
         let a = j * N;
         self.record(
             |k: usize|
-                requires { a + k < self.now.width }
+                requires room { a + k ≤ 32768 }
+                requires inside { INSIDE ≡ true → a + k < width_of self.now }
                 ensures { (result ≡ index_in_row self.entry.now (a + k)) × (result < range N) }
-            { self.index_inside(a + k) },
+            { self.index_at::<INSIDE>(a + k) },
         )
     }
 
-    // Records `from` up to `to`.
-    pub(crate) fn put_each(&self, out: &mut [u8], from: usize, to: usize)
-        requires { (from ≤ to) × (to ≤ record_count self.now) × (4 * to ≤ length out.old) }
+    // Records `from` up to `to`. That `out` has room is asked here and wherever a row is packed: a struct around it
+    // would have to say what of it stays.
+    pub(crate) fn put_each<const INSIDE: bool>(&self, out: &mut [u8], from: usize, to: usize)
+        requires there { (from ≤ to) × (to ≤ record_count self.now) × (4 * to ≤ length out.old) }
+        requires inside { INSIDE ≡ true → to * N ≤ width_of self.now }
         ensures { RecordsOf self.now from (to - from) out.old out.new }
     {
+        // By `replace`: the check fails at a closure of the index alone that captures `self` alone.
         replace(
             out,
             from,
             to,
             |_: &[u8], j: usize|
-                requires { j < record_count self.now }
+                requires there { j < record_count self.now }
+                requires inside { INSIDE ≡ true → (j + 1) * N ≤ width_of self.now }
                 ensures { result ≡ record_of self.entry.now j }
-            { self.record_at(j) },
-        );
-    }
-
-    // The same of records that are inside the row: none of their indices is tested for the row's end.
-    pub(crate) fn put_inside(&self, out: &mut [u8], from: usize, to: usize)
-        requires { (from ≤ to) × (to * N ≤ self.now.width) × (4 * to ≤ length out.old) }
-        ensures { RecordsOf self.now from (to - from) out.old out.new }
-    {
-        replace(
-            out,
-            from,
-            to,
-            |_: &[u8], j: usize|
-                requires { (j + 1) * N ≤ self.now.width }
-                ensures { result ≡ record_of self.entry.now j }
-            { self.record_inside(j) },
+            { self.record_at::<INSIDE>(j) },
         );
     }
 }

@@ -1,5 +1,5 @@
 // Looking up the index of a pixel.
-ghost use Rattle.std.specs.Prelude.{◌≡◌, ◌*◌, ◌<◌, ◌≤◌, length};
+ghost use Rattle.std.specs.Prelude.{◌≡◌, ◌/◌, ◌<◌, ◌≤◌, length};
 ghost use Rattle.format.specs.Picture.{pixels};
 ghost use Rattle.color_table.specs.Found.{found};
 ghost use Rattle.color_table.specs.Hints.{slot_of, Linked, Hints};
@@ -8,11 +8,10 @@ use pixel::entries::Entries;
 use pixel::word::Word;
 
 // The lowest index whose entry equals w, by looking at each.
-pub fn scan(entries: &[u8], size: usize, w: Word) -> Option<usize>
-    requires { 4 * size ≤ length entries.now }
-    ensures { result ≡ found size (pixels entries.now) w }
+pub fn scan(entries: &[u8], w: Word) -> Option<usize>
+    ensures { result ≡ found (length entries.now / 4) (pixels entries.now) w }
 {
-    (0..size).find(|i| Word::at(entries, *i) == w)
+    (0..entries.len() / 4).find(|i| Word::at(entries, *i) == w)
 }
 
 // Where w is looked for.
@@ -36,7 +35,7 @@ pub(crate) fn hints_of(entries: &Entries) -> [u8; 4352]
     ensures { Hints entries.now.size (pixels entries.now.bytes.now) result }
 {
     let mut hints = no_hints(entries);
-    // By the index, which is what is written, in two places.
+    // By the index: it is itself what is written, and gives one of the two places.
     for i in (0..entries.size).rev() {
         let s = slot(Word::at(entries.bytes, i));
         hints[4096 + i] = hints[s];

@@ -5,6 +5,9 @@ ghost use Rattle.color_table.specs.OneOf.{EachOf};
 
 use pixel::word::Word;
 
+// Row and colors are parameters: a caller would make a struct of them to ask one thing, and `pass` is called with one
+// color as both.
+
 // Whether each of the eight pixels from i on is a or b: with no branch, so that they are compared at once.
 fn eight_of(row: &[u8], i: usize, a: Word, b: Word) -> bool
     requires { 4 * (i + 8) ≤ length row.now }

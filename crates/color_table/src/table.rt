@@ -7,7 +7,7 @@ ghost use Rattle.color_table.specs.Places.{places-prop};
 ghost use Rattle.color_table.specs.Table.{column_in, TableOf, ColumnsOf};
 
 use pixel::entries::Entries;
-use pixel::replace::replace;
+use pixel::replace::fill;
 use pixel::stride::per_pixel;
 use pixel::word::Word;
 
@@ -35,7 +35,7 @@ impl Padded {
             × TableOf (entry entries.now.size (pixels entries.now.bytes.now)) result.entries }
     {
         let mut padded = [[0u8; 4]; 256];
-        // By the index of both arrays.
+        // By the index, at which one array is read and the other written: of what an `iter_mut` wrote no fact is known.
         for i in 0..entries.size {
             padded[i] = <[u8; 4]>::from(Word::at(entries.bytes, i));
         }
@@ -69,11 +69,11 @@ impl Padded {
         ensures { (e : Picture) → TableOf e self.now.entries → ColumnsOf self.now.per_byte e result }
     {
         let mut columns = [0u8; 8192];
-        replace(
+        fill(
             &mut columns,
             0,
             256 * self.per_byte,
-            |_: &[u8], i: usize| self.column(i),
+            |i: usize| self.column(i),
         );
         columns
     }

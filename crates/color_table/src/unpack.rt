@@ -1,11 +1,11 @@
 // A row unpacked in place: the buffer's front holds the packed rows, and becomes the expanded ones row by row from the
 // bottom. A row's columns go from the right, because one may lie where a packed pixel of the same row stands.
-ghost use Rattle.std.specs.Prelude.{◌≡◌, ℕ, ◌+◌, ◌-◌, ◌*◌, ◌<◌, ◌≤◌, length};
+ghost use Rattle.std.specs.Prelude.{◌≡◌, ℕ, ◌+◌, ◌-◌, ◌*◌, ◌<◌, ◌≤◌, length, get_or, map};
 ghost use Rattle.format.specs.Picture.{Picture, pixels};
 ghost use Rattle.format.specs.ColorTable.{packed_width, per_pixel};
 ghost use Rattle.pixel.specs.Cells.{pixel_cells, run, given};
 ghost use Rattle.color_table.specs.Table.{ColumnsOf};
-ghost use Rattle.color_table.specs.Four.{FourOf};
+ghost use Rattle.color_table.specs.Four.{four_of};
 ghost use Rattle.color_table.specs.Unpack.{row_of, Columns, RowUnpacked};
 
 use crate::four::put_four;
@@ -24,74 +24,72 @@ fn packed_byte(part: &[u8], k: usize) -> usize
     part[4 * k + 1] as usize
 }
 
-// Pixels p, q, r and s of `columns` as pixels i to i + 3: by bytes, and without the generic `put_four`, so that the
-// compiler moves two pixels at once.
-fn move_four(
-    part: &mut [u8],
-    i: usize,
-    p: usize,
-    q: usize,
-    r: usize,
-    s: usize,
-    columns: &[u8; 8192],
-)
-    requires { (4 * (i + 4) ≤ length part.old) × (p < 256) × (q < 256) × (r < 256) × (s < 256) }
-    ensures { (f : Picture) → FourOf f i (pixels columns.now p) (pixels columns.now q) (pixels columns.now r)
-        (pixels columns.now s) → part.new ≡ run pixel_cells (given f) i 4 part.old }
+// Pixels `from` of `columns` as pixels i to i + 3. They are moved one by one, by bytes, which the compiler joins two by
+// two: by the generic `put_four` a table of 256 takes longer.
+fn move_four(part: &mut [u8], i: usize, from: [usize; 4], columns: &[u8; 8192])
+    requires inside { 4 * (i + 4) ≤ length part.old }
+    requires bytes { (k : ℕ) → k < 4 → get_or from k 0 < 256 }
+    ensures { (f : Picture) → map (pixels columns.now) from ≡ four_of f i
+        → part.new ≡ run pixel_cells (given f) i 4 part.old }
 {
-    let k = i + 1;
-    let l = i + 2;
-    let m = i + 3;
+    let [p, q, r, s] = from;
     let a = pixel_at(columns, p);
     let b = pixel_at(columns, q);
     let c = pixel_at(columns, r);
     let d = pixel_at(columns, s);
     put_pixel(part, i, a);
-    put_pixel(part, k, b);
-    put_pixel(part, l, c);
-    put_pixel(part, m, d);
+    put_pixel(part, i + 1, b);
+    put_pixel(part, i + 2, c);
+    put_pixel(part, i + 3, d);
 }
 
-// The columns of every byte, which has N indices: what rows are unpacked by.
+// What a row is unpacked by: the columns of every byte, which has N indices, and the pixel where the row's own begin.
 #[derive(Drop)]
 struct Unpacking<'a, const N: usize> {
     columns: &'a [u8; 8192],
+    first: usize,
     ghost some: { 1 ≤ N },
     ghost most: { N ≤ 8 },
 }
 
-// `part` starts with a row's packed pixels, and its columns go to pixel `first` on.
+// `part` starts with a row's packed pixels, and its columns go to pixel `first` on. What is asked of it is room for the
+// columns that a function writes, another number in each.
 impl<'a, const N: usize> Unpacking<'a, N> {
     // Column x.
     #[inline(always)]
     fn column_at(&self, part: &[u8], x: usize) -> Word
         requires { 4 * x + 4 ≤ length part.now }
-        ensures { (e : Picture) (first : ℕ) → ColumnsOf N e self.now.columns.now
-            → result ≡ row_of N e (pixels part.now) first (first + x) }
+        ensures { (e : Picture) → ColumnsOf N e self.now.columns.now
+            → result ≡ row_of N e (pixels part.now) self.now.first (self.now.first + x) }
     {
         let columns = self.columns;
         Word::at(columns, packed_byte(part, x / N) * N + x % N)
     }
 
     // Four columns, all of them read before one is written.
-    fn put_four(&self, part: &mut [u8], first: usize, x: usize)
-        requires { 4 * (first + x + 4) ≤ length part.old }
-        ensures { Columns N self.now.columns.now first x 4 part.old part.new }
+    fn put_four(&self, part: &mut [u8], x: usize)
+        requires { 4 * (self.now.first + x + 4) ≤ length part.old }
+        ensures { Columns N self.now.columns.now self.now.first x 4 part.old part.new }
     {
         let columns = self.columns;
-        let i = first + x;
+        let i = self.first + x;
+        // A test of N: methods of a trait would need an `impl` for each N.
         if N == 1 {
-            let p = packed_byte(part, x);
-            let q = packed_byte(part, x + 1);
-            let r = packed_byte(part, x + 2);
-            let s = packed_byte(part, x + 3);
-            move_four(part, i, p, q, r, s, columns);
+            let from = [
+                packed_byte(part, x),
+                packed_byte(part, x + 1),
+                packed_byte(part, x + 2),
+                packed_byte(part, x + 3),
+            ];
+            move_four(part, i, from, columns);
         } else {
-            let a = self.column_at(part, x);
-            let b = self.column_at(part, x + 1);
-            let c = self.column_at(part, x + 2);
-            let d = self.column_at(part, x + 3);
-            put_four(part, i, a, b, c, d);
+            let pixels = [
+                self.column_at(part, x),
+                self.column_at(part, x + 1),
+                self.column_at(part, x + 2),
+                self.column_at(part, x + 3),
+            ];
+            put_four(part, i, pixels);
         }
     }
 
@@ -103,66 +101,68 @@ impl<'a, const N: usize> Unpacking<'a, N> {
             → part.new ≡ run pixel_cells (given f) i 4 part.old }
     {
         let columns = self.columns;
-        put_four(
-            part,
-            i,
+        let pixels = [
             Word::at(columns, j),
             Word::at(columns, j + 1),
             Word::at(columns, j + 2),
             Word::at(columns, j + 3),
-        );
+        ];
+        put_four(part, i, pixels);
     }
 
     // The first 4 * count columns.
-    fn put_fours(&self, part: &mut [u8], first: usize, count: usize)
-        requires { 4 * (first + 4 * count) ≤ length part.old }
-        ensures { Columns N self.now.columns.now first 0 (4 * count) part.old part.new }
+    fn put_fours(&self, part: &mut [u8], count: usize)
+        requires { 4 * (self.now.first + 4 * count) ≤ length part.old }
+        ensures { Columns N self.now.columns.now self.now.first 0 (4 * count) part.old part.new }
     {
         for k in (0..count).rev() {
-            self.put_four(part, first, 4 * k);
+            self.put_four(part, 4 * k);
         }
     }
 
-    // The first 8 * count columns, by the faster way for N.
-    fn put_front(&self, part: &mut [u8], first: usize, count: usize)
-        requires { 4 * (first + 8 * count) ≤ length part.old }
-        ensures { Columns N self.now.columns.now first 0 (8 * count) part.old part.new }
+    // The first 8 * count columns. By eights the byte of a packed pixel that has eight is read once; column by column
+    // a table of 2 takes longer than the Rust.
+    fn put_front(&self, part: &mut [u8], count: usize)
+        requires { 4 * (self.now.first + 8 * count) ≤ length part.old }
+        ensures { Columns N self.now.columns.now self.now.first 0 (8 * count) part.old part.new }
     {
+        // A test of N: methods of a trait would need an `impl` for each N.
         if N == 8 {
             Unpacking::<8> {
                 columns: self.columns,
+                first: self.first,
             }
-            .put_eights(part, first, count);
+            .put_eights(part, count);
         } else {
-            self.put_fours(part, first, 2 * count);
+            self.put_fours(part, 2 * count);
         }
     }
 
     // Columns `from` up to `width`, one by one.
-    fn put_rest(&self, part: &mut [u8], first: usize, from: usize, width: usize)
-        requires { (from ≤ width) × (4 * (first + width) ≤ length part.old) }
-        ensures { Columns N self.now.columns.now first from (width - from) part.old part.new }
+    fn put_rest(&self, part: &mut [u8], from: usize, width: usize)
+        requires { (from ≤ width) × (4 * (self.now.first + width) ≤ length part.old) }
+        ensures { Columns N self.now.columns.now self.now.first from (width - from) part.old part.new }
     {
         replace_back(
             part,
-            first + from,
-            first + width,
+            self.first + from,
+            self.first + width,
             |part: &[u8], i: usize|
-                requires { (first ≤ i) × (4 * i + 4 ≤ length part.now) }
+                requires { (self.now.first ≤ i) × (4 * i + 4 ≤ length part.now) }
                 ensures { (e : Picture) → ColumnsOf N e self.entry.now.columns.now
-                    → result ≡ row_of N e (pixels part.now) first (first + (i - first)) }
-            { Pixel::from(self.column_at(part, i - first)) },
+                    → result ≡ row_of N e (pixels part.now) self.entry.now.first i }
+            { Pixel::from(self.column_at(part, i - self.first)) },
         );
     }
 
     // All `width` columns.
-    fn put_row(&self, part: &mut [u8], first: usize, width: usize)
-        requires { 4 * (first + width) ≤ length part.old }
-        ensures { Columns N self.now.columns.now first 0 width part.old part.new }
+    fn put_row(&self, part: &mut [u8], width: usize)
+        requires { 4 * (self.now.first + width) ≤ length part.old }
+        ensures { Columns N self.now.columns.now self.now.first 0 width part.old part.new }
     {
         let eights = width / 8;
-        self.put_rest(part, first, 8 * eights, width);
-        self.put_front(part, first, eights);
+        self.put_rest(part, 8 * eights, width);
+        self.put_front(part, eights);
     }
 }
 
@@ -170,37 +170,38 @@ impl<'a, const N: usize> Unpacking<'a, N> {
 impl<'a> Unpacking<'a, 8> {
     // The columns of packed pixel k.
     #[inline(always)]
-    fn put_pixel(&self, part: &mut [u8], first: usize, k: usize)
-        requires { 4 * (first + 8 * k + 8) ≤ length part.old }
-        ensures { Columns 8 self.now.columns.now first (8 * k) 8 part.old part.new }
+    fn put_pixel(&self, part: &mut [u8], k: usize)
+        requires { 4 * (self.now.first + 8 * k + 8) ≤ length part.old }
+        ensures { Columns 8 self.now.columns.now self.now.first (8 * k) 8 part.old part.new }
     {
         let j = packed_byte(part, k) * 8;
-        let i = first + 8 * k;
+        let i = self.first + 8 * k;
         self.copy_four(part, i + 4, j + 4);
         self.copy_four(part, i, j);
     }
 
     // The columns of the first `count` packed pixels.
-    fn put_eights(&self, part: &mut [u8], first: usize, count: usize)
-        requires { 4 * (first + 8 * count) ≤ length part.old }
-        ensures { Columns 8 self.now.columns.now first 0 (8 * count) part.old part.new }
+    fn put_eights(&self, part: &mut [u8], count: usize)
+        requires { 4 * (self.now.first + 8 * count) ≤ length part.old }
+        ensures { Columns 8 self.now.columns.now self.now.first 0 (8 * count) part.old part.new }
     {
         for k in (0..count).rev() {
-            self.put_pixel(part, first, k);
+            self.put_pixel(part, k);
         }
     }
 }
 
-// A row of `width` columns: in each arm N is a constant, for which the loops are compiled.
+// A row of `width` columns. A `match`, since no value is a const parameter: in each arm N is a constant, for which the
+// loops are compiled.
 fn unpack_row(part: &mut [u8], first: usize, width: usize, size: usize, columns: &[u8; 8192])
     requires { 4 * (first + width) ≤ length part.old }
     ensures { Columns (per_pixel size) columns.now first 0 width part.old part.new }
 {
     match per_pixel(size) {
-        8 => Unpacking::<8> { columns }.put_row(part, first, width),
-        4 => Unpacking::<4> { columns }.put_row(part, first, width),
-        2 => Unpacking::<2> { columns }.put_row(part, first, width),
-        _ => Unpacking::<1> { columns }.put_row(part, first, width),
+        8 => Unpacking::<8> { columns, first }.put_row(part, width),
+        4 => Unpacking::<4> { columns, first }.put_row(part, width),
+        2 => Unpacking::<2> { columns, first }.put_row(part, width),
+        _ => Unpacking::<1> { columns, first }.put_row(part, width),
     }
 }
 

@@ -1,6 +1,7 @@
 -- Any set of changed pixels: where a strip is a picture stored, making afresh the records of the changed pixels' spots
 -- makes the changed picture's strip, and the marks of those that changed count every record in which the two strips
 -- differ. ps are the changed pixels.
+use Rattle.std.proofs.lemmas.Bool.{and_parts}
 use Rattle.std.specs.Prelude.{if◌then◌else◌}
 use mathlib.Core.Bool.{Bool, true, false, not, ◌&&◌, false≢true}
 use mathlib.Core.List.{List, []}
@@ -16,7 +17,6 @@ use Rattle.format.specs.Refusals.{input_refusal}
 use Rattle.format.specs.Stages.{stored}
 use Rattle.format.specs.Retouch.{spot_records, differ, marks, ones, remade, new_strip, changes}
 use Rattle.format.specs.Calls.{records}
-use Rattle.format.proofs.Choice.{and_left, and_right}
 use Rattle.format.proofs.Indices.{among_in, in_among}
 use Rattle.format.proofs.Pixels.{equal_refl}
 use Rattle.format.proofs.Marks.{marks_same, ones_changed}
@@ -50,7 +50,7 @@ module _ (w h : ℕ) (cs ds : List ℕ) (valid : input_refusal w h cs ds ≡ 0) 
 
     -- the ones of the marks are how many records differ
     pub differing_counted : ones (marks (differ n (afresh f) (afresh g)) [] rs) ≡ how_many n (differ n (afresh f) (afresh g))
-    differing_counted = ones_changed n d rs (λ r e. ltb-true r n (and_left (ltb r n) _ e)) (λ r e. among_in r rs (found r e (among r rs) refl))
+    differing_counted = ones_changed n d rs (λ r e. ltb-true r n (and_parts (ltb r n) _ e).0) (λ r e. among_in r rs (found r e (among r rs) refl))
       where
         d : ℕ → Bool
         d = differ n (afresh f) (afresh g)
@@ -58,7 +58,7 @@ module _ (w h : ℕ) (cs ds : List ℕ) (valid : input_refusal w h cs ds ≡ 0) 
         found : (r : ℕ) → d r ≡ true → (t : Bool) → among r rs ≡ t → among r rs ≡ true
         found r e true q = q
         found r e false q =
-            let d : equal (afresh f r) (afresh g r) ≡ false = not-true (equal (afresh f r) (afresh g r)) (and_right (ltb r n) _ e) in
+            let d : equal (afresh f r) (afresh g r) ≡ false = not-true (equal (afresh f r) (afresh g r)) (and_parts (ltb r n) _ e).1 in
             absurd (false≢true (sym d ∙ rw (← kept r q) (equal_refl (afresh f r))))
 
     module _ (strip : Picture) (match : (r : ℕ) → r < n → strip r ≡ afresh f r) where

@@ -9,6 +9,7 @@ use native.Mathlib.Omega.{arith}
 use borrow.Author.Tests.{leb-true, le-leb, lt-leb, ne_eqb}
 use lib.Dec.{eqb, leb, ltb, lit≤}
 use lib.ListN.{length}
+use Rattle.std.proofs.lemmas.Bool.{and_parts, and_from, or_right}
 use Rattle.std.specs.Prelude.{Ok, Err, if◌then◌else◌}
 use Rattle.format.specs.declared.Refusal.TheVariants.{UnknownKind, KindAgain, NotTabled, WrongLength, BeyondData}
 use Rattle.format.specs.declared.Step.{Step}
@@ -20,7 +21,6 @@ use Rattle.format.specs.Stages.{stored, rebuilt, accepts}
 use Rattle.format.specs.Retouch.{changes, differ, marks, mask_of, new_strip, unmade, point_answer}
 use Rattle.format.specs.Calls.{holds, records, pair_refusal, rebuild_answer, rebuild_image, store_answer, store_strip, inside, painted, touched, retouch_answer, retouch_picture, retouch_strip}
 use Rattle.format.specs.Promises.{RetouchNumber}
-use Rattle.format.proofs.Choice.{and_left, and_right, and_both, or_right}
 use Rattle.format.proofs.Marks.{marks_length, mask_small, ones_mask_of}
 use Rattle.format.proofs.Valid.{before_zero, unless_zero}
 
@@ -119,14 +119,14 @@ module _ (w h : ℕ) (cs ds : List ℕ) where
     pub pair_accepts : refusal ≡ 0 → 4 * (h * w) ≤ length picture → 4 * records w h cs ≤ length strip → pair_refusal w h cs ds picture strip ≡ 0
     unfolding pair_refusal
     pair_accepts e l m =
-        rw (e, and_both (holds picture (h * w)) (holds strip (records w h cs)) (le-leb (4 * (h * w)) (length picture) l) (le-leb (4 * records w h cs) (length strip) m))
+        rw (e, and_from (holds picture (h * w)) (holds strip (records w h cs)) (le-leb (4 * (h * w)) (length picture) l) (le-leb (4 * records w h cs) (length strip) m))
 
     pub pair_accepted : pair_refusal w h cs ds picture strip ≡ 0 → (refusal ≡ 0) × (4 * (h * w) ≤ length picture) × (4 * records w h cs ≤ length strip)
     unfolding pair_refusal
     pair_accepted e =
         let a = before_zero refusal _ e in
-        let r = unless_zero 7 rooms a.1 in
-        (a.0, leb-true (4 * (h * w)) (length picture) (and_left (holds picture (h * w)) _ r), leb-true (4 * records w h cs) (length strip) (and_right (holds picture (h * w)) _ r))
+        let r = and_parts (holds picture (h * w)) _ (unless_zero 7 rooms a.1) in
+        (a.0, leb-true (4 * (h * w)) (length picture) r.0, leb-true (4 * records w h cs) (length strip) r.1)
 
     -- storing
 

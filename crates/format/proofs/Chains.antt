@@ -6,13 +6,13 @@ use Prim.Native.Nat.{ℕ, zero, suc, ◌*◌, ◌<◌, ◌≤◌}
 use native.Mathlib.Nat.{le_refl}
 use native.Mathlib.Omega.{arith}
 use lib.ListN.{length}
+use Rattle.std.proofs.lemmas.Bool.{and_parts, and_from}
 use Rattle.format.specs.declared.Step.{Step}
 use Rattle.format.specs.Picture.{Picture}
 use Rattle.format.specs.Chain.{record_at, narrowed, width_at, step_at, count}
 use Rattle.format.specs.Refusals.{input_refusal}
 use Rattle.format.specs.Stages.{part_of, forward, backward, stored, rebuilt, takes, accepts}
 use Rattle.format.specs.ValidStep.{ValidStep}
-use Rattle.format.proofs.Choice.{and_left, and_right, and_both}
 use Rattle.format.proofs.RoundTrips.{predictor_stored, color-stored, green-stored, table_stored, predictor_rebuilt, color-rebuilt, green-rebuilt}
 use Rattle.format.proofs.Inside.{Alike}
 use Rattle.format.proofs.Bytewise.{BytesIn, residuals_bytes, from_residuals_bytes, color_stored_bytes, color_rebuilt_bytes, green_stored_bytes, green_rebuilt_bytes, packed_bytes}
@@ -110,8 +110,8 @@ module _ (w h : ℕ) (cs ds : List ℕ) (valid : input_refusal w h cs ds ≡ 0) 
   pub chain_stored : taken (count cs) ≡ true → Alike (h * w) (rebuilt (step_at cs w) h ds (count cs) (stored (step_at cs w) ds (count cs) f)) f
   unfolding stored accepts record_at
   chain_stored =
-      stages_rebuilt w h cs ds valid (λ k. stored (step_at cs w) ds k f) bytes taken (λ k a. and_left (taken k) _ a)
-      (λ k l a b. forward_undone (step_at cs w k) h (length ds) ds (width_at_pos cs w k (valid_sized w h cs ds valid).wide) (valid_step w h cs ds valid k l) (stored (step_at cs w) ds k f) b (and_right (taken k) _ a))
+      stages_rebuilt w h cs ds valid (λ k. stored (step_at cs w) ds k f) bytes taken (λ k a. (and_parts (taken k) _ a).0)
+      (λ k l a b. forward_undone (step_at cs w k) h (length ds) ds (width_at_pos cs w k (valid_sized w h cs ds valid).wide) (valid_step w h cs ds valid k l) (stored (step_at cs w) ds k f) b (and_parts (taken k) _ a).1)
       (count cs) (le_refl (count cs))
 
 -- chains without a color table
@@ -130,7 +130,7 @@ pub accepts_untabled : (cs : List ℕ) (w h : ℕ) (ds : List ℕ) (k : ℕ) →
 unfolding accepts
 accepts_untabled cs w h ds zero u f = refl
 accepts_untabled cs w h ds (suc k) u f =
-    and_both (accepts (step_at cs w) h ds k f) _ (accepts_untabled cs w h ds k (λ j l. u j (omega arith)) f)
+    and_from (accepts (step_at cs w) h ds k f) _ (accepts_untabled cs w h ds k (λ j l. u j (omega arith)) f)
     (takes_other (step_at cs w k) h ds (stored (step_at cs w) ds k f) (u k (omega arith)))
 
 module _ (w h : ℕ) (cs ds : List ℕ) (valid : input_refusal w h cs ds ≡ 0) (untabled : Untabled cs w (count cs)) where

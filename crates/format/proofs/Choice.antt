@@ -1,7 +1,11 @@
 -- Laws of choices by a test.
+use Rattle.std.proofs.lemmas.Bool.{and_parts, and_from}
+use Rattle.std.proofs.lemmas.List.FromFn.{length-range_with_len, get_or-range_with_len}
+use Rattle.std.specs.List.{range_with_len, HoldsAt, AllWithin}
+use lib.ListN.{length, get_or}
+use mathlib.Core.List.{List}
 use Rattle.std.specs.Prelude.{if◌then◌else◌}
-use mathlib.Core.Bool.{Bool, true, false, not, ◌&&◌, ◌||◌, false≢true, true≢false}
-use mathlib.Core.Logic.{◌⊎◌, inl, inr}
+use mathlib.Core.Bool.{Bool, true, false, not, ◌&&◌, true≢false}
 use mathlib.Core.Path.{◌≡◌, refl, sym, subst}
 use Prim.Native.Nat.{ℕ, zero, suc, ◌<◌}
 use native.Mathlib.Nat.{not-suc-le-zero}
@@ -14,19 +18,6 @@ pub if_same : {A : Type 0} (b : Bool) {x y x' y' : A} → (b ≡ true → x ≡ 
 if_same true p q = p refl
 if_same false p q = q refl
 
-pub and_left : (a b : Bool) → (a && b) ≡ true → a ≡ true
-and_left true b e = refl
-and_left false b e = e
-
-pub and_right : (a b : Bool) → (a && b) ≡ true → b ≡ true
-and_right true b e = e
-and_right false true e = refl
-and_right false false e = e
-
-pub and_both : (a b : Bool) → a ≡ true → b ≡ true → (a && b) ≡ true
-and_both true b p q = q
-and_both false b p q = p
-
 pub and_false_left : (a b : Bool) → a ≡ false → (a && b) ≡ false
 and_false_left a b e = rw e refl
 
@@ -34,21 +25,18 @@ pub and_false_right : (a b : Bool) → b ≡ false → (a && b) ≡ false
 and_false_right true b e = e
 and_false_right false b e = refl
 
-lower : {q n : ℕ} → q < suc n → (q ≡ n → ⊥) → q < n
-lower h ne = omega arith
-
 -- a number below n passes
 pub every_at : (n : ℕ) (t : ℕ → Bool) (q : ℕ) → q < n → every n t ≡ true → t q ≡ true
 every_at zero t q h e = absurd (not-suc-le-zero h)
 every_at (suc n) t q h e = go (ℕ_discrete q n) (every_at n t q)
   where
     go : Dec (q ≡ n) → (q < n → every n t ≡ true → t q ≡ true) → t q ≡ true
-    go (yes p) ih = subst (λ (k : ℕ). t k ≡ true) (sym p) (and_left (t n) (every n t) e)
-    go (no p) ih = ih (lower h p) (and_right (t n) (every n t) e)
+    go (yes p) ih = subst (λ (k : ℕ). t k ≡ true) (sym p) (and_parts (t n) (every n t) e).0
+    go (no p) ih = ih (omega arith) (and_parts (t n) (every n t) e).1
 
 pub every_all : (n : ℕ) (t : ℕ → Bool) → ((q : ℕ) → q < n → t q ≡ true) → every n t ≡ true
 every_all zero t h = refl
-every_all (suc n) t h = and_both (t n) (every n t) (h n (omega arith)) (every_all n t (λ q l. h q (omega arith)))
+every_all (suc n) t h = and_from (t n) (every n t) (h n (omega arith)) (every_all n t (λ q l. h q (omega arith)))
 
 pub every_same : (n : ℕ) (s t : ℕ → Bool) → ((q : ℕ) → q < n → s q ≡ t q) → every n s ≡ every n t
 every_same zero s t h = refl
@@ -67,30 +55,23 @@ pub every_true : (n : ℕ) → every n (λ q. true) ≡ true
 every_true zero = refl
 every_true (suc n) = every_true n
 
--- a choice has what both its branches have
-pub if_cases : {A : Type 0} (C : A → Type 0) (b : Bool) {x y : A} → (b ≡ true → C x) → (b ≡ false → C y) → C (if b then x else y)
-if_cases C true p q = p refl
-if_cases C false p q = q refl
-
-pub decide : (b : Bool) → (b ≡ true) ⊎ (b ≡ false)
-decide true = inl refl
-decide false = inr refl
-
-pub or_left : (a b : Bool) → a ≡ true → (a || b) ≡ true
-or_left true b e = refl
-or_left false b e = absurd (false≢true e)
-
-pub or_right : (a b : Bool) → b ≡ true → (a || b) ≡ true
-or_right true b e = refl
-or_right false b e = e
-
-pub or_cases : (a b : Bool) → (a || b) ≡ true → (a ≡ true) ⊎ (b ≡ true)
-or_cases true b e = inl refl
-or_cases false b e = inr e
-
 -- two tests that cannot both be true, nor both be false
 pub opposite : (a b : Bool) → (a ≡ true → b ≡ true → ⊥) → (b ≡ false → a ≡ true) → a ≡ not b
 opposite true true x y = absurd (x refl refl)
 opposite true false x y = refl
 opposite false true x y = refl
 opposite false false x y = y refl
+
+-- what `all` and `any` find of the numbers below n, as lists
+module _ (P : ℕ → Type 0) (n : ℕ) where
+  abbrev numbers : List ℕ
+  numbers = range_with_len 0 n
+
+  here : (j : ℕ) → j < n → get_or numbers j 0 ≡ j
+  here j l = omega (arith, get_or-range_with_len 0 n j 0 l)
+
+  pub each_below : AllWithin P numbers 0 (length numbers) → (j : ℕ) → j < n → P j
+  each_below h j l = rw (here j l) at (h j 0 (omega arith) (rw (length-range_with_len 0 n) l))
+
+  pub one_below : (i : ℕ) × (i < length numbers) × HoldsAt P numbers i → (j : ℕ) × (j < n) × P j
+  one_below (i, l, h) = let low : i < n = rw (length-range_with_len 0 n) at l in (i, low, rw (here i low) at (h 0))

@@ -1,5 +1,6 @@
 -- Laws of the color table: what was packed is found again, digit by digit, and the entry at a pixel's index is that
 -- pixel.
+use Rattle.std.proofs.lemmas.Bool.{cond_both}
 use Rattle.std.specs.Prelude.{if◌then◌else◌}
 use mathlib.Core.Bool.{Bool, true, false}
 use mathlib.Core.Path.{◌≡◌, refl, sym, ap, ◌∙◌}
@@ -8,7 +9,7 @@ use native.Mathlib.Nat.{not-suc-le-zero, le_of_suc-le-suc, zero-add, pow-zero, p
 use lib.Pow.{pow-add}
 use native.Mathlib.Decide.{dec_lt}
 use native.Mathlib.Omega.{arith}
-use borrow.Author.Tests.{ltb-true, leb-true, lt-ltb, le-ltb}
+use borrow.Author.Tests.{ltb-true, leb-true, leb-false, lt-ltb, le-ltb}
 use lib.Arith.{digits_lt, digits_div, digits_mod}
 use lib.Dec.{ltb, leb, lit<}
 use Rattle.format.specs.declared.Pixel.{Pixel}
@@ -97,34 +98,26 @@ pub index_digit : (n b k : ℕ) → index_in n b k ≡ b / range n ^ k % range n
 unfolding index_in
 index_digit n b k = rw (pow_times (8 / n) k) refl
 
--- how many indices go into a byte
+-- how many indices go into a byte, by the table's size
+pub by_size : (P : ℕ → Type 0) (size : ℕ) → (size ≤ 2 → P 8) → (2 < size → size ≤ 4 → P 4) → (4 < size → size ≤ 16 → P 2) → (16 < size → P 1) → P (per_pixel size)
+unfolding per_pixel
+by_size P size p8 p4 p2 p1 =
+    cond_both (leb size 2) _ _ P (λ a. p8 (leb-true size 2 a))
+    (λ a. cond_both (leb size 4) _ _ P (λ b. p4 (leb-false size 2 a) (leb-true size 4 b))
+    (λ b. cond_both (leb size 16) _ _ P (λ c. p2 (leb-false size 4 b) (leb-true size 16 c)) (λ c. p1 (leb-false size 16 c))))
 
 pub record Bundled (size n : ℕ) : Type 0 where
   pub fits : size ≤ range n
   pub whole : range n ^ n ≡ 256
   pub some : 0 < range n
-  pub many : 0 < n
 
 pub bundled : (size : ℕ) → size ≤ 256 → Bundled size (per_pixel size)
-unfolding per_pixel
 bundled size l =
-    go (leb size 2) (leb size 4) (leb size 16) (leb-true size 2) (leb-true size 4) (leb-true size 16)
-  where
-    go : (a b c : Bool) → (a ≡ true → size ≤ 2) → (b ≡ true → size ≤ 4) → (c ≡ true → size ≤ 16) → Bundled size (if a then 8 else (if b then 4 else (if c then 2 else 1)))
-    go true b c x y z = record { fits = x refl; whole = refl; some = lit< tt; many = lit< tt }
-    go false true c x y z = record { fits = y refl; whole = refl; some = lit< tt; many = lit< tt }
-    go false false true x y z = record { fits = z refl; whole = refl; some = lit< tt; many = lit< tt }
-    go false false false x y z = record { fits = l; whole = refl; some = lit< tt; many = lit< tt }
+    by_size (Bundled size) size (λ a. record { fits = a; whole = refl; some = lit< tt }) (λ a b. record { fits = b; whole = refl; some = lit< tt })
+    (λ a b. record { fits = b; whole = refl; some = lit< tt }) (λ a. record { fits = l; whole = refl; some = lit< tt })
 
 pub per_pixel_pos : (size : ℕ) → 0 < per_pixel size
-unfolding per_pixel
-per_pixel_pos size = go (leb size 2) (leb size 4) (leb size 16)
-  where
-    go : (a b c : Bool) → 0 < (if a then 8 else (if b then 4 else (if c then 2 else 1)))
-    go true b c = lit< tt
-    go false true c = lit< tt
-    go false false true = lit< tt
-    go false false false = lit< tt
+per_pixel_pos size = by_size (λ n. 0 < n) size (λ a. lit< tt) (λ a b. lit< tt) (λ a b. lit< tt) (λ a. lit< tt)
 
 -- digits
 

@@ -22,7 +22,7 @@ use Rattle.format.specs.Report.{counter, color_count, counter_count, report_answ
 use Rattle.format.specs.Promises.{SameFront, Admitted, RebuildingExactly, StoringExactly, RebuildingAnswers, StoringAnswers, RetouchingAnswers, RebuildingRefused, StoringRefused, RetouchingRefused, RebuildsStored, RebuildsEarlier, AnswersAsEarlier, ConvertsEarlier, StoresRebuilt, StoredPair, OneCall, left, painted_in_turn, RetouchesLikeDesk, ColorMapAnswers, ColorMapUndone, ColorMapRefused, ReportingAnswers, ReportingRefused, of_color, of_none, all_pixels, left_counters, ReportsAddUp}
 use Rattle.format.proofs.Picture.{written_same}
 use Rattle.format.proofs.RoundTrips.{map_adjusted, map_unadjusted}
-use Rattle.format.proofs.Written.{bytes_pixels, length_written, pixels_written, written_over}
+use Rattle.format.proofs.Written.{bytes_pixels, length_written, written_over, written_read}
 use Rattle.format.proofs.Inside.{Alike}
 use Rattle.format.proofs.Stages.{stored_same, rebuilt_same, accepts_same}
 use Rattle.format.proofs.Valid.{before_zero, valid_sized, valid_known}
@@ -61,7 +61,7 @@ color_map_undone map bytes = (map_adjusted map bytes, map_unadjusted map bytes)
 
 -- a front that was written is what was written there
 front_written : (n : ℕ) (f : Picture) (xs ys zs : List ℕ) → SameFront n xs ys → ys ≡ written n f zs → Alike n (pixels xs) f
-front_written n f xs ys zs front e q l = front q l ∙ ap (λ (bs : List ℕ). pixels bs q) e ∙ pixels_written n f zs q l
+front_written n f xs ys zs front e q l = front q l ∙ written_read n f zs ys e q l
 
 module _ (w h : ℕ) (cs ds : List ℕ) where
   pub rebuilding_answers : RebuildingAnswers w h cs ds
@@ -140,7 +140,7 @@ module _ (w h : ℕ) (cs ds : List ℕ) where
       taken : accepts (step_at cs w) h ds (count cs) (pixels p) ≡ true
       taken =
           accepts_same cs w h ds (valid_sized w h cs ds valid).wide (count cs) (valid_known w h cs ds valid) (pixels p) f
-          (λ q l. ap (λ (xs : List ℕ). pixels xs q) made ∙ pixels_written (h * w) f image q l)
+          (written_read (h * w) f image p made)
           ∙ (store_accepted w h cs ds picture strip (answers_as_earlier picture strip ∙ e)).3
 
       wide : 4 * (h * w) ≤ length p

@@ -1,4 +1,5 @@
 -- Strips stored earlier rebuild: a pixel's index is in its own position by both rules, and unpacking looks at no other.
+use Rattle.std.proofs.lemmas.Bool.{and_parts}
 use Rattle.std.specs.Prelude.{if◌then◌else◌}
 use mathlib.Core.Bool.{Bool, true, false}
 use mathlib.Core.List.{List}
@@ -19,7 +20,6 @@ use Rattle.format.specs.Stages.{part_of, forward, stored, rebuilt, takes, accept
 use Rattle.format.specs.Calls.{records, pair_refusal, store_answer}
 use Rattle.format.specs.Earlier.{earlier_index_at, earlier_packed, earlier_forward, earlier_stored, earlier_accepts, earlier_answer, earlier_strip}
 use Rattle.format.specs.ValidStep.{ValidStep}
-use Rattle.format.proofs.Choice.{and_left, and_right}
 use Rattle.format.proofs.ColorTable.{bundled, used_index, unpacked_used, used_own, index_small, used_stored, unpacked_packed}
 use Rattle.format.proofs.Inside.{Alike}
 use Rattle.format.proofs.Bytewise.{BytesIn, rows_bytes}
@@ -90,8 +90,8 @@ module _ (w h : ℕ) (cs ds : List ℕ) (valid : input_refusal w h cs ds ≡ 0) 
   pub chain_earlier : BytesIn (h * w) f → taken (count cs) ≡ true → Alike (h * w) (rebuilt steps h ds (count cs) (earlier_stored steps ds (count cs) f)) f
   unfolding earlier_stored earlier_accepts record_at
   chain_earlier bytes =
-      stages_rebuilt w h cs ds valid (λ k. earlier_stored steps ds k f) bytes taken (λ k a. and_left (taken k) _ a)
-      (λ k l a b. earlier_undone (steps k) h (length ds) ds (width_at_pos cs w k (valid_sized w h cs ds valid).wide) (valid_step w h cs ds valid k l) (earlier_stored steps ds k f) b (and_right (taken k) _ a))
+      stages_rebuilt w h cs ds valid (λ k. earlier_stored steps ds k f) bytes taken (λ k a. (and_parts (taken k) _ a).0)
+      (λ k l a b. earlier_undone (steps k) h (length ds) ds (width_at_pos cs w k (valid_sized w h cs ds valid).wide) (valid_step w h cs ds valid k l) (earlier_stored steps ds k f) b (and_parts (taken k) _ a).1)
       (count cs) (le_refl (count cs))
 
   -- up to the table both rules make the same

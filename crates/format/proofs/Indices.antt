@@ -10,9 +10,9 @@ use native.Mathlib.Omega.{arith}
 use borrow.Author.Tests.{eqb-true, eq-eqb}
 use lib.Dec.{eqb}
 use lib.ListN.{get_or}
+use Rattle.std.proofs.lemmas.Bool.{cases_Bool, or_left, or_right, or_cases}
 use Rattle.format.specs.Choice.{bit}
 use Rattle.format.specs.Indices.{some, among, union, how_many}
-use Rattle.format.proofs.Choice.{decide, or_left, or_right, or_cases}
 
 -- what is in a list
 
@@ -44,7 +44,7 @@ in_among r l m = some_in (eqb r) r l m (eq-eqb r r refl)
 
 -- a number is in a list or is not
 pub in_or_out : (r : ℕ) (l : List ℕ) → In r l ⊎ (In r l → ⊥)
-in_or_out r l = ⊎_elim (λ e. inl (among_in r l e)) (λ e. inr (λ m. false≢true (subst (λ (b : Bool). b ≡ true) e (in_among r l m)))) (decide (among r l))
+in_or_out r l = ⊎_elim (λ e. inl (among_in r l e)) (λ e. inr (λ m. false≢true (subst (λ (b : Bool). b ≡ true) e (in_among r l m)))) (cases_Bool (among r l))
 
 -- a union has what its lists have
 pub in_union : (h : ℕ → List ℕ) {r q : ℕ} (qs : List ℕ) → In q qs → In r (h q) → In r (union h qs)

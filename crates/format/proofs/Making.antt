@@ -1,5 +1,6 @@
 -- What an item is made of is inside its stage, and every item is looked at by one of its spots. So refusal 22 is exact,
 -- though it looks at the spots of changed pixels alone.
+use Rattle.std.proofs.lemmas.Bool.{and_parts, and_from, cond_both, or_left, or_right, or_cases}
 use Rattle.std.specs.Prelude.{if◌then◌else◌}
 use mathlib.Core.Bool.{Bool, true, false, not, ◌&&◌, false≢true, true≢false}
 use mathlib.Core.List.Memᴰ
@@ -25,7 +26,7 @@ use Rattle.format.specs.Stages.{part_of, takes, stored, accepts}
 use Rattle.format.specs.Made.{mode_names, named_by, named, columns, made_of, takes_item, missing, lost}
 use Rattle.format.specs.Retouch.{packed_over, spots_of, spot_records, unmade}
 use Rattle.format.specs.Calls.{records}
-use Rattle.format.proofs.Choice.{and_left, and_right, and_both, or_left, or_right, or_cases, every_at, not_every, every_true, if_cases, opposite}
+use Rattle.format.proofs.Choice.{every_at, not_every, every_true, opposite}
 use Rattle.format.proofs.Indices.{In, Each, ◌and◌, each_at, each_in, some_in, in_some, in_or_out, in_union}
 use Rattle.format.proofs.Predictor.{row_above}
 use Rattle.format.proofs.ColorTable.{per_pixel_pos, column_packed, ceiling_pos}
@@ -66,14 +67,14 @@ named_inside w bits d pos n r b =
     let y = r / w in
     let e : y * w + x ≡ r = div-add-mod' r w in
     let l : x < w = mod-lt r pos in
-    if_cases (Each P) (eqb y 0)
-    (λ y0. if_cases (Each P) (eqb x 0) (λ x0. tt) (λ x1. omega arith and tt))
+    cond_both (eqb y 0) _ _ (Each P)
+    (λ y0. cond_both (eqb x 0) _ _ (Each P) (λ x0. tt) (λ x1. omega arith and tt))
     (λ y1.
     let u = row_above w y (eqb-false y 0 y1) in
-    if_cases (Each P) (eqb x 0) (λ x0. omega arith and tt)
+    cond_both (eqb x 0) _ _ (Each P) (λ x0. omega arith and tt)
     (λ x1.
     named_by_each P (mode w bits d x y) (left w index x y) (top w index x y) (top_right w index x y) (top_left w index x y) (omega arith) (omega arith)
-    (if_cases P (eqb (x + 1) w) (λ last. omega arith) (λ inner. omega arith)) (omega arith)))
+    (cond_both (eqb (x + 1) w) _ _ P (λ last. omega arith) (λ inner. omega arith)) (omega arith)))
 
 -- the columns of a packed pixel
 
@@ -92,7 +93,7 @@ columns_inside : (w h y : ℕ) → y < h → (n x : ℕ) → Each (λ q. q < h *
 unfolding columns
 columns_inside w h y l zero x = tt
 columns_inside w h y l (suc n) x =
-    if_cases (Each (λ q. q < h * w)) (ltb x w) (λ t. digits_lt l (ltb-true x w t) and columns_inside w h y l n (suc x)) (λ t. tt)
+    cond_both (ltb x w) _ _ (Each (λ q. q < h * w)) (λ t. digits_lt l (ltb-true x w t) and columns_inside w h y l n (suc x)) (λ t. tt)
 
 -- what an item is made of, by kind
 
@@ -195,7 +196,7 @@ module _ (steps : ℕ → Step) (widths : ℕ → ℕ) (h : ℕ) (ds : List ℕ)
   unfolding accepts
   taken k f a q l =
       every_at (h * (steps k).width) (λ r. takes_item (steps k) ds (stored steps ds k f r)) q l
-      (sym (takes_items (steps k) h ds (stored steps ds k f)) ∙ and_right (accepts steps h ds k f) _ a)
+      (sym (takes_items (steps k) h ds (stored steps ds k f)) ∙ (and_parts (accepts steps h ds k f) _ a).1)
 
   -- of an accepted picture every item can be made
   none_missing : (k : ℕ) → Fit k → (f : Picture) → accepts steps h ds k f ≡ true → (r : ℕ) → r < h * widths k → missing steps ds k f r ≡ true → ⊥
@@ -206,7 +207,7 @@ module _ (steps : ℕ → Step) (widths : ℕ → ℕ) (h : ℕ) (ds : List ℕ)
       let m = in_some (lost steps ds k f) (made_of (steps k) ds r) e in
       let q = m.0 in
       let b = made-inside (steps k) h ds now.wide now.known r q (rw now.to l) m.1 in
-      ⊎_elim (none_missing k (λ j i. fit j (omega arith)) f (and_left (accepts steps h ds k f) _ a) q (subst (λ (x : ℕ). q < h * x) now.from b))
+      ⊎_elim (none_missing k (λ j i. fit j (omega arith)) f (and_parts (accepts steps h ds k f) _ a).0 q (subst (λ (x : ℕ). q < h * x) now.from b))
       (λ t. true≢false (sym (taken k f a q b) ∙ not-true (takes_item (steps k) ds (stored steps ds k f q)) t))
       (or_cases (missing steps ds k f q) (not (takes_item (steps k) ds (stored steps ds k f q))) m.2)
 
@@ -232,7 +233,7 @@ module _ (steps : ℕ → Step) (widths : ℕ → ℕ) (h : ℕ) (ds : List ℕ)
     some_missing : (k : ℕ) → Fit k → accepts steps h ds k f ≡ true → accepts steps h ds k g ≡ false → Missing k
     unfolding accepts
     some_missing zero fit a b = absurd (true≢false b)
-    some_missing (suc k) fit a b = go (accepts steps h ds k g) refl b (some_missing k (λ j i. fit j (omega arith)) (and_left (accepts steps h ds k f) _ a))
+    some_missing (suc k) fit a b = go (accepts steps h ds k g) refl b (some_missing k (λ j i. fit j (omega arith)) (and_parts (accepts steps h ds k f) _ a).0)
       where
         s : Step
         s = steps k
@@ -268,14 +269,14 @@ module _ (steps : ℕ → Step) (widths : ℕ → ℕ) (h : ℕ) (ds : List ℕ)
         there : some t (spot_records steps k ps) ≡ true → accepts steps h ds k g ≡ true → ⊥
         there e b =
             let m = in_some t (spot_records steps k ps) e in
-            let r = m.0 in
-            none_missing k fit g b r (ltb-true r (h * widths k) (and_left (ltb r (h * widths k)) _ m.2)) (and_right (ltb r (h * widths k)) _ m.2)
+            let p = and_parts (ltb m.0 (h * widths k)) _ m.2 in
+            none_missing k fit g b m.0 (ltb-true m.0 (h * widths k) p.0) p.1
 
         back : accepts steps h ds k g ≡ false → some t (spot_records steps k ps) ≡ true
         back b =
             let m = some_missing k fit a b in
             let r = m.0 in
-            some_in t r (spot_records steps k ps) m.2 (and_both (ltb r (h * widths k)) _ (lt-ltb r (h * widths k) m.1) m.3)
+            some_in t r (spot_records steps k ps) m.2 (and_from (ltb r (h * widths k)) _ (lt-ltb r (h * widths k) m.1) m.3)
 
 -- a valid chain
 

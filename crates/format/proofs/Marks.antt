@@ -1,5 +1,5 @@
 -- Laws of the mask: a record that changed is marked once, so that the ones of the mask are the records that changed.
-use mathlib.Core.Bool.{Bool, true, false, not, ◌&&◌, ◌||◌}
+use mathlib.Core.Bool.{Bool, true, false, not, ◌&&◌, ◌||◌, and-true, and-false}
 use mathlib.Core.List.Memᴰ
 use mathlib.Core.List.{List, [], ◌∷◌}
 use mathlib.Core.Logic.{◌⊎◌, inl, inr, ⊎_elim}
@@ -8,15 +8,15 @@ use Prim.Native.Nat.{ℕ, zero, suc, ◌+◌, ◌*◌, ◌/◌, ◌%◌, ◌^◌
 use native.Mathlib.Nat.{not-suc-le-zero, lt_of_lt_of_le, pow-succ'}
 use native.Mathlib.Decide.{ℕ_discrete}
 use native.Mathlib.Omega.{arith}
-use borrow.Author.Tests.{eq-eqb, ne_eqb}
+use borrow.Author.Tests.{both_ways, not-true, eq-eqb, ne_eqb}
 use lib.Count as Count
 use lib.Dec.{eqb}
 use lib.ListN.{length}
 use lib.Pow.{pow_mono}
+use Rattle.std.proofs.lemmas.Bool.{and_parts, false_from_ne_true}
 use Rattle.format.specs.Choice.{bit}
 use Rattle.format.specs.Indices.{among, how_many}
 use Rattle.format.specs.Retouch.{marks, mask_of, ones}
-use Rattle.format.proofs.Choice.{and_left, and_right}
 use Rattle.format.proofs.Indices.{In, in_among, how_many_same, how_many_none}
 
 bit_most : (b : Bool) → bit b ≤ 1
@@ -37,19 +37,11 @@ ones_most seen c (r ∷ rs) = omega (arith, bit_most (c r && not (among r seen))
 abbrev less : ℕ → (ℕ → Bool) → ℕ → Bool
 less r t q = t q && not (eqb q r)
 
-and_true : (b : Bool) → (b && true) ≡ b
-and_true true = refl
-and_true false = refl
-
-and_false : (b : Bool) → (b && false) ≡ false
-and_false true = refl
-and_false false = refl
-
 less_off : (r : ℕ) (t : ℕ → Bool) (q : ℕ) → (q ≡ r → ⊥) → less r t q ≡ t q
-less_off r t q n = rw (ne_eqb q r n) (and_true (t q))
+less_off r t q n = rw (ne_eqb q r n) (and-true (t q))
 
 less_at : (r : ℕ) (t : ℕ → Bool) (q : ℕ) → q ≡ r → less r t q ≡ false
-less_at r t q e = rw (eq-eqb q r e) (and_false (t q))
+less_at r t q e = rw (eq-eqb q r e) (and-false (t q))
 
 -- a number is counted once, where it passes
 how_many_less : (m : ℕ) (t : ℕ → Bool) (r : ℕ) → r < m → how_many m t ≡ bit (t r) + how_many m (less r t)
@@ -100,29 +92,18 @@ swap true false false = refl
 swap false true c = refl
 swap false false c = refl
 
-no_true : (b : Bool) → (b ≡ true → ⊥) → b ≡ false
-no_true true h = absurd (h refl)
-no_true false h = refl
-
-clash : (b : Bool) → b ≡ true → not b ≡ true → ⊥
-clash true e n = false_true n
-  where
-    false_true : false ≡ true → ⊥
-    false_true z = omega (arith, ap bit z)
-clash false e n = omega (arith, ap bit e)
-
 -- where each record that changed is seen or one of the list, those that are new are marked once
 marked : (m : ℕ) (seen : List ℕ) (c : ℕ → Bool) (rs : List ℕ) → ((q : ℕ) → c q ≡ true → q < m) → ((q : ℕ) → c q ≡ true → In q seen ⊎ In q rs)
     → ones (marks c seen rs) ≡ how_many m (fresh seen c)
-marked m seen c [] below found = sym (how_many_none m (fresh seen c) (λ q l. no_true (fresh seen c q) (gone q)))
+marked m seen c [] below found = sym (how_many_none m (fresh seen c) (λ q l. false_from_ne_true (fresh seen c q) (gone q)))
   where
     gone : (q : ℕ) → fresh seen c q ≡ true → ⊥
     gone q e =
-        ⊎_elim (λ i. clash (among q seen) (in_among q seen i) (and_right (c q) (not (among q seen)) e)) (λ i. Memᴰ.not-nil i)
-        (found q (and_left (c q) (not (among q seen)) e))
+        let p = and_parts (c q) (not (among q seen)) e in
+        ⊎_elim (λ i. both_ways (among q seen) (not-true (among q seen) p.1) (in_among q seen i)) (λ i. Memᴰ.not-nil i) (found q p.0)
 marked m seen c (r ∷ rs) below found =
     let a = marked m (r ∷ seen) c rs below moved in
-    let b = how_many_without m (fresh seen c) r (λ e. below r (and_left (c r) (not (among r seen)) e)) in
+    let b = how_many_without m (fresh seen c) r (λ e. below r (and_parts (c r) (not (among r seen)) e).0) in
     let d = how_many_same m (fresh (r ∷ seen) c) (less r (fresh seen c)) (λ q l. swap (c q) (eqb q r) (among q seen)) in
     omega arith
   where
@@ -135,7 +116,7 @@ marked m seen c (r ∷ rs) below found =
 -- where each record that changed is one of the list, the ones of the mask are how many changed
 pub ones_changed : (m : ℕ) (c : ℕ → Bool) (rs : List ℕ) → ((q : ℕ) → c q ≡ true → q < m) → ((q : ℕ) → c q ≡ true → In q rs)
     → ones (marks c [] rs) ≡ how_many m c
-ones_changed m c rs below found = marked m [] c rs below (λ q e. inr (found q e)) ∙ how_many_same m (fresh [] c) c (λ q l. and_true (c q))
+ones_changed m c rs below found = marked m [] c rs below (λ q e. inr (found q e)) ∙ how_many_same m (fresh [] c) c (λ q l. and-true (c q))
 
 -- the mask of five marks is below 32
 

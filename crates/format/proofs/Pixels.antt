@@ -1,6 +1,6 @@
 -- Laws of pixels whose channels are bytes.
-use Rattle.std.specs.Prelude.{if◌then◌else◌}
-use mathlib.Core.Bool.{Bool, true, false, ◌&&◌}
+use Rattle.std.proofs.lemmas.Bool.{and_parts}
+use mathlib.Core.Bool.{true, ◌&&◌}
 use mathlib.Core.Path.{◌≡◌, refl}
 use Prim.Native.Nat.{ℕ, ◌<◌}
 use native.Mathlib.Omega.{arith}
@@ -9,7 +9,6 @@ use lib.Dec.{eqb}
 use Rattle.format.specs.declared.Pixel.{Pixel}
 use Rattle.format.specs.Byte.{add, sub}
 use Rattle.format.specs.Pixel.{pixel, each, equal}
-use Rattle.format.proofs.Choice.{and_left, and_right}
 use Rattle.format.proofs.Byte.{add_sub, sub_add}
 
 pub record Bytes (v : Pixel) : Type 0 where
@@ -46,19 +45,14 @@ each_add_turn u v t = λ k. pixel (byte u.red v.red t.red k) (byte u.green v.gre
 -- the test says what it should
 pub equal_true : (u v : Pixel) → equal u v ≡ true → u ≡ v
 equal_true u v e =
-    let rg = and_left (eqb u.red v.red && eqb u.green v.green) (eqb u.blue v.blue && eqb u.alpha v.alpha) e in
-    let ba = and_right (eqb u.red v.red && eqb u.green v.green) (eqb u.blue v.blue && eqb u.alpha v.alpha) e in
-    let r = eqb-true u.red v.red (and_left (eqb u.red v.red) (eqb u.green v.green) rg) in
-    let g = eqb-true u.green v.green (and_right (eqb u.red v.red) (eqb u.green v.green) rg) in
-    let b = eqb-true u.blue v.blue (and_left (eqb u.blue v.blue) (eqb u.alpha v.alpha) ba) in
-    let a = eqb-true u.alpha v.alpha (and_right (eqb u.blue v.blue) (eqb u.alpha v.alpha) ba) in
+    let halves = and_parts (eqb u.red v.red && eqb u.green v.green) (eqb u.blue v.blue && eqb u.alpha v.alpha) e in
+    let first = and_parts (eqb u.red v.red) (eqb u.green v.green) halves.0 in
+    let last = and_parts (eqb u.blue v.blue) (eqb u.alpha v.alpha) halves.1 in
+    let r = eqb-true u.red v.red first.0 in
+    let g = eqb-true u.green v.green first.1 in
+    let b = eqb-true u.blue v.blue last.0 in
+    let a = eqb-true u.alpha v.alpha last.1 in
     λ k. pixel (r k) (g k) (b k) (a k)
 
 pub equal_refl : (v : Pixel) → equal v v ≡ true
 equal_refl v = rw (eq-eqb v.red v.red refl, eq-eqb v.green v.green refl, eq-eqb v.blue v.blue refl, eq-eqb v.alpha v.alpha refl)
-
--- a choice in each channel is the choice of the pixel
-pub if_channels : (b : Bool) (u v : Pixel)
-    → pixel (if b then u.red else v.red) (if b then u.green else v.green) (if b then u.blue else v.blue) (if b then u.alpha else v.alpha) ≡ (if b then u else v)
-if_channels true u v = refl
-if_channels false u v = refl

@@ -1,4 +1,5 @@
 -- Laws of the call that reports: which numbers it answers, when it accepts, and what it adds.
+use Rattle.std.proofs.lemmas.Bool.{and_parts, and_from}
 use Rattle.std.specs.Prelude.{if◌then◌else◌}
 use mathlib.Core.Bool.{Bool, true, false, ◌&&◌}
 use mathlib.Core.List.{List}
@@ -17,7 +18,7 @@ use Rattle.format.specs.Refusals.{size_refusal, accepted, in_range, ◌unless◌
 use Rattle.format.specs.Calls.{holds}
 use Rattle.format.specs.Report.{added, counter, written_counters, color_count, counter_count, in_fours, color_list, holds_counters, grown, report_answer, report_counters, Map, map_answer, map_leaves, sum}
 use Rattle.format.specs.Promises.{ReportNumber, of_color, of_none, all_pixels, Reportable}
-use Rattle.format.proofs.Choice.{and_left, and_right, and_both, every_at, every_all}
+use Rattle.format.proofs.Choice.{every_at, every_all}
 use Rattle.format.proofs.Valid.{before_zero, unless_zero}
 use Rattle.format.proofs.Calls.{before_is, unless_is, not_accepted}
 use Rattle.format.proofs.Report.{sum_same, sum_plus, added_together, counter_written, beyond_written, length_counters}
@@ -57,19 +58,19 @@ module _ (w h : ℕ) (picture colors counters : List ℕ) where
       let a = before_zero (size_refusal w h) _ e in
       let b = before_zero (23 unless color_list colors) _ a.1 in
       let c = before_zero (8 unless rooms) _ b.1 in
-      let r = unless_zero 7 rooms c.0 in
+      let r = and_parts (holds_counters counters (counter_count colors)) _ (unless_zero 7 rooms c.0) in
       record {
         sized = a.0;
         list = unless_zero 22 (color_list colors) b.0;
-        room = leb-true (8 * counter_count colors) (length counters) (and_left (holds_counters counters (counter_count colors)) _ r);
-        there = leb-true (4 * (h * w)) (length picture) (and_right (holds_counters counters (counter_count colors)) _ r);
+        room = leb-true (8 * counter_count colors) (length counters) r.0;
+        there = leb-true (4 * (h * w)) (length picture) r.1;
         below = λ k l. ltb-true (grows k) (2 ^ 64) (every_at (counter_count colors) (λ j. ltb (grows j) (2 ^ 64)) k l (unless_zero 23 fits c.1));
       }
 
   pub report_accepts : Accepted → answered ≡ 0
   unfolding report_answer
   report_accepts a =
-      let r : rooms ≡ true = and_both (holds_counters counters (counter_count colors)) (holds picture (h * w)) (le-leb (8 * counter_count colors) (length counters) a.room) (le-leb (4 * (h * w)) (length picture) a.there) in
+      let r : rooms ≡ true = and_from (holds_counters counters (counter_count colors)) (holds picture (h * w)) (le-leb (8 * counter_count colors) (length counters) a.room) (le-leb (4 * (h * w)) (length picture) a.there) in
       let f : fits ≡ true = every_all (counter_count colors) (λ k. ltb (grows k) (2 ^ 64)) (λ k l. lt-ltb (grows k) (2 ^ 64) (a.below k l)) in
       rw (a.sized, a.list, r, f) refl
 
@@ -119,7 +120,7 @@ module _ (colors : List ℕ) where
       sum_same (counter_count colors) _ _ (λ k l. counter_written (counter_count colors) (λ j. counter s j + adds j m) s k l (a.below k l))
       ∙ sum_plus (counter_count colors) (counter s) (λ k. adds k m)
       ∙ ap (λ (n : ℕ). sum (counter_count colors) (counter s) + n)
-      (added_together (color_count colors) (pixels colors) (and_right (in_fours colors) _ a.list) (all_pixels m) (pixels m.picture)))
+      (added_together (color_count colors) (pixels colors) (and_parts (in_fours colors) _ a.list).1 (all_pixels m) (pixels m.picture)))
       (sym (add-zero (sum (counter_count colors) (counter s))))
 
   pub beyond_kept : (s : List ℕ) (m : Map) → drop (8 * counter_count colors) (map_leaves colors s m) ≡ drop (8 * counter_count colors) s

@@ -1,7 +1,8 @@
 -- A retouch answers and leaves what the plain desk does, where the strip is the picture stored; so every list of
 -- retouches does (Lists).
+use Rattle.std.proofs.lemmas.Bool.{and_parts}
 use Rattle.std.specs.Prelude.{if◌then◌else◌}
-use mathlib.Core.Bool.{Bool, true, false, not, ◌&&◌, false≢true}
+use mathlib.Core.Bool.{Bool, true, false, not, ◌&&◌, false≢true, and-false, not-not}
 use mathlib.Core.List.{List, [], ◌∷◌}
 use mathlib.Core.Path.{◌≡◌, refl, sym, ap, ◌∙◌}
 use Prim.Native.Nat.{ℕ, ◌+◌, ◌*◌, ◌<◌, ◌≤◌}
@@ -20,11 +21,10 @@ use Rattle.format.specs.Retouch.{differ, marks, mask_of, ones, answer, unmade, n
 use Rattle.format.specs.Calls.{records, inside, touched, retouch_answer, retouch_picture, retouch_strip}
 use Rattle.format.specs.Lists.{in_turn, left_by, answers_to, accepted_calls}
 use Rattle.format.specs.Desk.{Retouch, Buffers, painted_by, differing, desk_answer, desk_holds, desk, call_answer, call_leaves, call}
-use Rattle.format.proofs.Choice.{and_left, and_right}
 use Rattle.format.proofs.Indices.{how_many_same, how_many_none}
 use Rattle.format.proofs.Pixels.{equal_refl}
 use Rattle.format.proofs.Picture.{written_same, paint_other}
-use Rattle.format.proofs.Written.{length_written, pixels_written, pixels_whole, written_over, written_self}
+use Rattle.format.proofs.Written.{length_written, pixels_whole, written_over, written_self, written_read}
 use Rattle.format.proofs.Lists.{related, left_accepted}
 use Rattle.format.proofs.Marks.{marks_same, ones_most}
 use Rattle.format.proofs.Locality.{Off, paint_off}
@@ -48,14 +48,6 @@ unfolding outcome
 outcome_number true true k e = refl
 outcome_number true false k e = absurd (false≢true e)
 outcome_number false a k e = absurd (false≢true e)
-
-not_not : (a : Bool) → not (not a) ≡ a
-not_not true = refl
-not_not false = refl
-
-and_false : (a : Bool) → (a && false) ≡ false
-and_false true = refl
-and_false false = refl
 
 module _ (w h : ℕ) (cs ds : List ℕ) where
   abbrev n : ℕ
@@ -108,7 +100,7 @@ module _ (w h : ℕ) (cs ds : List ℕ) where
       unfolding desk_answer outcome
       same_answer =
           tests
-          ∙ rw (unmade_exact w h cs ds valid (p ∷ []) f g off m.taken, not_not (taken g), changes_stored w h cs ds valid (p ∷ []) f g off (pixels b.strip) m.stored, counted) refl
+          ∙ rw (unmade_exact w h cs ds valid (p ∷ []) f g off m.taken, not-not (taken g), changes_stored w h cs ds valid (p ∷ []) f g off (pixels b.strip) m.stored, counted) refl
 
       pub accepts_exactly : accepted (desk_answer w h cs ds f c) ≡ (inside w h c.x c.y && taken g)
       unfolding desk_answer outcome
@@ -140,8 +132,8 @@ module _ (w h : ℕ) (cs ds : List ℕ) where
       -- a point that was accepted is inside
       point_inside : accepted (desk_answer w h cs ds f c) ≡ true → p < h * w
       point_inside e =
-          let i = and_left (inside w h c.x c.y) (taken g) (sym accepts_exactly ∙ e) in
-          digits_lt (ltb-true c.y h (and_right (ltb c.x w) (ltb c.y h) i)) (ltb-true c.x w (and_left (ltb c.x w) (ltb c.y h) i))
+          let i = and_parts (ltb c.x w) (ltb c.y h) (and_parts (inside w h c.x c.y) (taken g) (sym accepts_exactly ∙ e)).0 in
+          digits_lt (ltb-true c.y h i.1) (ltb-true c.x w i.0)
 
       held_beyond : (q : ℕ) → h * w ≤ q → desk_holds w h cs ds f c q ≡ f q
       unfolding desk_holds
@@ -156,14 +148,14 @@ module _ (w h : ℕ) (cs ds : List ℕ) where
       held_taken = go (accepted (desk_answer w h cs ds f c)) accepts_exactly
         where
           go : (t : Bool) → t ≡ (inside w h c.x c.y && taken g) → taken (if t then g else f) ≡ true
-          go true e = and_right (inside w h c.x c.y) (taken g) (sym e)
+          go true e = (and_parts (inside w h c.x c.y) (taken g) (sym e)).1
           go false e = m.taken
 
       held_read : pixels (call_leaves w h cs ds b c).picture ≡ desk_holds w h cs ds f c
       held_read = ap pixels next_picture ∙ pixels_whole (h * w) (desk_holds w h cs ds f c) b.picture held_beyond
 
       next_stored : (r : ℕ) → r < n → pixels (call_leaves w h cs ds b c).strip r ≡ afresh (desk_holds w h cs ds f c) r
-      next_stored r l = ap (λ (xs : List ℕ). pixels xs r) next_strip ∙ pixels_written n (afresh (desk_holds w h cs ds f c)) b.strip r l
+      next_stored = written_read n (afresh (desk_holds w h cs ds f c)) b.strip (call_leaves w h cs ds b c).strip next_strip
 
       next_matched : Matched (call_leaves w h cs ds b c)
       next_matched = record {
@@ -187,7 +179,7 @@ module _ (w h : ℕ) (cs ds : List ℕ) where
 
       moved_refused : accepted (desk_answer w h cs ds f c) ≡ false → (r : ℕ) → moved r ≡ false
       unfolding desk_holds
-      moved_refused e r = moved_stored r ∙ rw (e, equal_refl (afresh f r)) (and_false (ltb r n))
+      moved_refused e r = moved_stored r ∙ rw (e, equal_refl (afresh f r)) (and-false (ltb r n))
 
       pub few_moved : how_many n moved ≤ length rs
       few_moved = go (accepted (desk_answer w h cs ds f c)) refl

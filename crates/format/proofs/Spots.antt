@@ -1,5 +1,6 @@
 -- Document 01's words on spots: five at the predictor's stage, and the record that holds each; one record without a
 -- predictor; inside and outside; and a prediction looks at what it names alone.
+use Rattle.std.proofs.lemmas.Bool.{cases_Bool}
 use Rattle.std.specs.Prelude.{if◌then◌else◌}
 use mathlib.Core.Bool.{Bool, true, false, not}
 use mathlib.Core.List.{List, [], ◌∷◌, map, map-map, map-id}
@@ -26,7 +27,7 @@ use Rattle.format.specs.Refusals.{input_refusal}
 use Rattle.format.specs.Made.{mode_names, named_by, named}
 use Rattle.format.specs.Retouch.{five_spots, packed_over, place_of, spots_of, spot_records}
 use Rattle.format.specs.Calls.{records}
-use Rattle.format.proofs.Choice.{if_same, every_at, not_every, decide}
+use Rattle.format.proofs.Choice.{if_same, every_at, not_every}
 use Rattle.format.proofs.Indices.{In, Each, ◌and◌, in_each}
 use Rattle.format.proofs.ColorTable.{per_pixel_pos, column_packed, ceiling_pos}
 use Rattle.format.proofs.ByKind.{narrowed_table, narrowed_other}
@@ -151,7 +152,7 @@ module _ (w h : ℕ) (cs ds : List ℕ) (valid : input_refusal w h cs ds ≡ 0) 
       (λ e.
       let s = not_every (count cs) other e in
       rw (spots_literal s.0 s.1 (eqb-true (steps s.0).kind 0 (not-false (eqb (steps s.0).kind 0) s.2)) p) (omega arith))
-      (decide (every (count cs) other))
+      (cases_Bool (every (count cs) other))
 
   -- a spot is inside the predictor's stage exactly if its record is one of the strip
   pub spot_inside : (t : ℕ) → t < count cs → (step_at cs w t).kind ≡ 0 → (q : ℕ)

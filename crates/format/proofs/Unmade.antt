@@ -1,6 +1,7 @@
 -- Refusal 22 in document 01's words: a record cannot be made exactly if a pixel without entry reaches the table inside
 -- it or, where the table comes before the predictor, inside a packed pixel that its prediction names. Only a table
 -- loses items, and the records after it look at one item each, but for the predictor, which looks at what it names.
+use Rattle.std.proofs.lemmas.Bool.{or_left, or_right, or_cases, cases_Bool}
 use Rattle.std.specs.Prelude.{if◌then◌else◌}
 use mathlib.Core.Bool.{Bool, true, false, not, false≢true, true≢false}
 use mathlib.Core.List.Memᴰ
@@ -21,7 +22,6 @@ use Rattle.format.specs.Stages.{part_of, stored}
 use Rattle.format.specs.Made.{named, columns, made_of, takes_item, missing, lost}
 use Rattle.format.specs.Retouch.{packed_over}
 use Rattle.format.specs.Calls.{records}
-use Rattle.format.proofs.Choice.{or_left, or_right, or_cases, decide}
 use Rattle.format.proofs.Indices.{In, some_in, in_some}
 use Rattle.format.proofs.Locality.{packed_back, spots_table}
 use Rattle.format.proofs.Making.{made_predictor, made_color, made_green, made_table, made-inside, made_own}
@@ -111,7 +111,7 @@ module _ (w h : ℕ) (cs ds : List ℕ) (valid : input_refusal w h cs ds ≡ 0) 
   other j n b e =
       ⊎_elim (λ a. valid_once w h cs ds valid t l j (ltb-true j t a) (e ∙ sym table))
       (λ a. let m = ltb-false j t a in let c : t < j = omega arith in valid_once w h cs ds valid j b t c (table ∙ sym e))
-      (decide (ltb j t))
+      (cases_Bool (ltb j t))
 
   abbrev s : Step
   s = steps t
@@ -227,8 +227,3 @@ module _ (w h : ℕ) (cs ds : List ℕ) (valid : input_refusal w h cs ds ≡ 0) 
 
       along : (p : ℕ) → p < h * width_at cs w u → (missing steps ds u f p ≡ true) ↔ Lacking u p
       along = lacking_along u a (omega arith) (λ j x y z. valid_once w h cs ds valid u b j y (z ∙ sym e))
-
--- without a table every record can be made
-pub unmade_none : (w h : ℕ) (cs ds : List ℕ) → ((j : ℕ) → j < count cs → (step_at cs w j).kind ≡ 3 → ⊥) → (f : Picture) (r : ℕ)
-    → missing (step_at cs w) ds (count cs) f r ≡ true → ⊥
-unmade_none w h cs ds n f = untabled_made (step_at cs w) ds f (count cs) n

@@ -1,4 +1,5 @@
 -- What refusal 0 gives: a valid chain's sizes and records, and how the refusal of a chain is found record by record.
+use Rattle.std.proofs.lemmas.Bool.{and_parts}
 use Rattle.std.specs.Prelude.{Ok, Err, if◌then◌else◌}
 use mathlib.Core.Bool.{Bool, true, false, not, ◌&&◌}
 use mathlib.Core.List.{List}
@@ -17,7 +18,7 @@ use Rattle.format.specs.Sizes.{Sized}
 use Rattle.format.specs.Chain.{by_kind, record_at, narrowed, width_at, step_at, count}
 use Rattle.format.specs.Refusals.{used_before, blocks_tabled, green_tabled, table_tabled, tabled, block_bytes, tabled_length, checked, returned, ◌unless◌, ◌before◌, records_refusal, in_range, whole_records, size_refusal, chain_refusal, input_refusal}
 use Rattle.format.specs.ValidStep.{ValidBlocks, ValidTable, ValidStep}
-use Rattle.format.proofs.Choice.{and_left, and_right, every_at}
+use Rattle.format.proofs.Choice.{every_at}
 use Rattle.format.proofs.ByKind.{by_kind_blocks, by_kind_3}
 use Rattle.format.proofs.Stages.{KnownKinds, width_at_pos, width_record}
 
@@ -39,6 +40,25 @@ before_zero a b = go (eqb a 0) (eqb-true a 0) (eqb-false a 0)
 pub unless_zero : (n : ℕ) (b : Bool) → (suc n unless b) ≡ 0 → b ≡ true
 unless_zero n true e = refl
 unless_zero n false e = absurd (omega arith)
+
+-- bits and size, as the table of kinds has them
+
+module _ (s : Step) (p : tabled s ≡ true) where
+  fields : by_kind s.kind (blocks_tabled s) (blocks_tabled s) (green_tabled s) (table_tabled s) ≡ true
+  unfolding tabled
+  fields = (and_parts (eqb s.zero 0) _ p).1
+
+  of_blocks : s.kind ≤ 1 → blocks_tabled s ≡ true
+  of_blocks l = sym (by_kind_blocks (blocks_tabled s) (green_tabled s) (table_tabled s) s.kind l) ∙ fields
+
+  of_table : s.kind ≡ 3 → (leb 1 s.size && leb s.size 256) ≡ true
+  of_table e = (and_parts (eqb s.bits 0) _ (sym (by_kind_3 (blocks_tabled s) (blocks_tabled s) (green_tabled s) (table_tabled s) s.kind e) ∙ fields)).1
+
+  pub blocks_bits : s.kind ≤ 1 → s.bits ≤ 9
+  blocks_bits l = leb-true s.bits 9 (and_parts (leb s.bits 9) _ (and_parts (leb 2 s.bits) _ (of_blocks l)).1).0
+
+  pub table_size : s.kind ≡ 3 → s.size ≤ 256
+  table_size e = leb-true s.size 256 (and_parts (leb 1 s.size) _ (of_table e)).1
 
 -- one record
 
@@ -65,34 +85,24 @@ module _ (again : Bool) (h : ℕ) (ds : List ℕ) (s : Step) where
       go false false true true true p q r t u z = absurd (omega arith)
       go false false true true false p q r t u z = record { known = p; new = q; rightly = r; long = t; inside = u }
 
-  -- what the table of kinds says of bits and size, and of the length
-  fields : Passed again h ds s → by_kind s.kind (blocks_tabled s) (blocks_tabled s) (green_tabled s) (table_tabled s) ≡ true
-  unfolding tabled
-  fields p = and_right (eqb s.zero 0) _ p.rightly
-
+  -- what the table of kinds says of the length, and of bits and size
   lengths : Passed again h ds s → s.length ≡ by_kind s.kind (block_bytes s h) (block_bytes s h) 0 (4 * s.size)
   unfolding tabled_length
   lengths p = eqb-true s.length _ p.long
 
   valid_blocks : Passed again h ds s → s.kind ≤ 1 → ValidBlocks s h
-  valid_blocks p l =
-      let t = sym (by_kind_blocks (blocks_tabled s) (green_tabled s) (table_tabled s) s.kind l) ∙ fields p in
-      let m = and_right (leb 2 s.bits) _ t in
-      record {
-        least = leb-true 2 s.bits (and_left (leb 2 s.bits) _ t);
-        most = leb-true s.bits 9 (and_left (leb s.bits 9) _ m);
-        long = lengths p ∙ by_kind_blocks (block_bytes s h) 0 (4 * s.size) s.kind l;
-      }
+  valid_blocks p l = record {
+    least = leb-true 2 s.bits (and_parts (leb 2 s.bits) _ (of_blocks s p.rightly l)).0;
+    most = blocks_bits s p.rightly l;
+    long = lengths p ∙ by_kind_blocks (block_bytes s h) 0 (4 * s.size) s.kind l;
+  }
 
   valid_table : Passed again h ds s → s.kind ≡ 3 → ValidTable s
-  valid_table p e =
-      let t = sym (by_kind_3 (blocks_tabled s) (blocks_tabled s) (green_tabled s) (table_tabled s) s.kind e) ∙ fields p in
-      let m = and_right (eqb s.bits 0) _ t in
-      record {
-        some = leb-true 1 s.size (and_left (leb 1 s.size) _ m);
-        most = leb-true s.size 256 (and_right (leb 1 s.size) _ m);
-        long = lengths p ∙ by_kind_3 (block_bytes s h) (block_bytes s h) 0 (4 * s.size) s.kind e;
-      }
+  valid_table p e = record {
+    some = leb-true 1 s.size (and_parts (leb 1 s.size) _ (of_table s p.rightly e)).0;
+    most = table_size s p.rightly e;
+    long = lengths p ∙ by_kind_3 (block_bytes s h) (block_bytes s h) 0 (4 * s.size) s.kind e;
+  }
 
   pub passed_valid : Passed again h ds s → ValidStep s h (length ds)
   passed_valid p = record {
@@ -163,15 +173,7 @@ pub record Fits (s : Step) (a b : ℕ) : Type 0 where
 -- the chain
 
 module _ (w h : ℕ) (cs ds : List ℕ) where
-  -- refusals 1 and 2, and that of the records
-  pub chain_unsized : (in_range w && in_range h) ≡ false → input_refusal w h cs ds ≡ 1
-  unfolding input_refusal size_refusal chain_refusal
-  chain_unsized e = rw e
-
-  pub chain_broken : (in_range w && in_range h) ≡ true → whole_records cs ≡ false → input_refusal w h cs ds ≡ 2
-  unfolding input_refusal size_refusal chain_refusal
-  chain_broken e p = rw (e, p)
-
+  -- past tests 1 and 2
   pub chain_records : (in_range w && in_range h) ≡ true → whole_records cs ≡ true → input_refusal w h cs ds ≡ records_refusal cs w h ds (count cs)
   unfolding input_refusal size_refusal chain_refusal
   chain_records e p = rw (e, p)
@@ -186,17 +188,13 @@ module _ (w h : ℕ) (cs ds : List ℕ) (valid : input_refusal w h cs ds ≡ 0) 
 
   pub valid_sized : Sized w h
   valid_sized =
-      let a = and_left (in_range w) (in_range h) tests.0 in
-      let b = and_right (in_range w) (in_range h) tests.0 in
-      record {
-        wide = leb-true 1 w (and_left (leb 1 w) (leb w 16384) a);
-        narrow = leb-true w 16384 (and_right (leb 1 w) (leb w 16384) a);
-        tall = leb-true 1 h (and_left (leb 1 h) (leb h 16384) b);
-        low = leb-true h 16384 (and_right (leb 1 h) (leb h 16384) b);
-      }
+      let both = and_parts (in_range w) (in_range h) tests.0 in
+      let a = and_parts (leb 1 w) (leb w 16384) both.0 in
+      let b = and_parts (leb 1 h) (leb h 16384) both.1 in
+      record { wide = leb-true 1 w a.0; narrow = leb-true w 16384 a.1; tall = leb-true 1 h b.0; low = leb-true h 16384 b.1 }
 
   pub valid_short : length cs ≤ 64
-  valid_short = leb-true (length cs) 64 (and_right (eqb (length cs % 16) 0) (leb (length cs) 64) tests.1)
+  valid_short = leb-true (length cs) 64 (and_parts (eqb (length cs % 16) 0) (leb (length cs) 64) tests.1).1
 
   pub valid_count : count cs ≤ 4
   valid_count = omega (arith, valid_short)

@@ -48,6 +48,13 @@ pixels_written (suc n) f xs (suc i) l =
     pixels_cons (f 0).red (f 0).green (f 0).blue (f 0).alpha (written n (λ j. f (suc j)) (drop 4 xs)) i
     ∙ pixels_written n (λ j. f (suc j)) (drop 4 xs) i (le_of_suc-le-suc l)
 
+-- buffers that are one hold one picture
+pub pixels_same : {xs ys : List ℕ} → xs ≡ ys → (i : ℕ) → pixels xs i ≡ pixels ys i
+pixels_same e i k = pixels (e k) i
+
+pub written_read : (n : ℕ) (f : Picture) (xs ys : List ℕ) → ys ≡ written n f xs → (i : ℕ) → i < n → pixels ys i ≡ f i
+written_read n f xs ys e i l = pixels_same e i ∙ pixels_written n f xs i l
+
 -- a longer front covers a shorter
 pub written_over : (n m : ℕ) (f g : Picture) (xs : List ℕ) → m ≤ n → written n f (written m g xs) ≡ written n f xs
 unfolding written

@@ -2,7 +2,8 @@
 // share.
 #![tactic(auto)]
 
-ghost use Rattle.std.specs.Prelude.{◌≡◌, ◌≤◌};
+ghost use Rattle.std.specs.Prelude.{◌≡◌, ◌<◌, ◌≤◌, MatchResult};
+ghost use Rattle.format.specs.declared.Refusal.TheVariants.{UnknownKind};
 ghost use Rattle.format.specs.Chain.{kind_of};
 ghost use Rattle.format.specs.Refusals.{number};
 
@@ -17,7 +18,7 @@ pub struct Pixel {
 
 // A record of a chain: its fields, and the current width where its turn comes. `kind` is a number, since one over 3 is
 // read and refused. `zero` is its last four bytes.
-#[derive(Clone, Copy)]
+#[derive(Clone, Copy, Default)]
 pub struct Step {
     pub kind: u32,
     pub bits: u32,
@@ -37,18 +38,31 @@ pub enum TransformType {
     ColorTable = 3,
 }
 
+// A kind over 3 is refused.
+impl TryFrom<u32> for TransformType {
+    type Error = Refusal;
+
+    ghost try_from_gives = { λ kind result. MatchResult result (λ t. kind ≡ kind_of t)
+        (λ refusal. (3 < kind) × (refusal ≡ UnknownKind)) };
+
+    fn try_from(kind: u32) -> Result<TransformType, Refusal> {
+        match kind {
+            0 => Ok(TransformType::Predictor),
+            1 => Ok(TransformType::Color),
+            2 => Ok(TransformType::SubtractGreen),
+            3 => Ok(TransformType::ColorTable),
+            _ => Err(Refusal::UnknownKind),
+        }
+    }
+}
+
 impl Step {
     // Of a record whose kind is not refused.
     pub fn transform_type(&self) -> TransformType
         requires { self.now.kind ≤ 3 }
         ensures { self.now.kind ≡ kind_of result }
     {
-        match self.kind {
-            0 => TransformType::Predictor,
-            1 => TransformType::Color,
-            2 => TransformType::SubtractGreen,
-            _ => TransformType::ColorTable,
-        }
+        TransformType::try_from(self.kind).unwrap()
     }
 }
 

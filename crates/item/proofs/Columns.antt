@@ -1,22 +1,26 @@
 -- A record of indices, position by position.
 use Rattle.std.specs.Prelude.{Option, Some, None, option_and_then, option_map, if◌then◌else◌}
 use mathlib.Core.Bool.{Bool, true, false, not, ◌||◌, or-false}
-use mathlib.Core.List.{[], ◌∷◌}
+use mathlib.Core.List.{List, [], ◌∷◌}
 use mathlib.Core.Path.{◌≡◌, refl, sym, ap, ◌∙◌}
-use Prim.Native.Nat.{ℕ, zero, suc, ◌+◌, ◌-◌, ◌*◌, ◌^◌, ◌<◌, ◌≤◌}
+use Prim.Native.Nat.{ℕ, zero, suc, ◌+◌, ◌-◌, ◌*◌, ◌/◌, ◌^◌, ◌<◌, ◌≤◌}
 use native.Mathlib.Nat.{add-zero, one-le-pow, pow-succ', pow-le-pow_right}
 use native.Mathlib.Decide.{dec_lt}
 use native.Mathlib.Omega.{arith}
 use borrow.Author.Tests.{lt-ltb, le-ltb, ltb-true}
+use Rattle.std.proofs.lemmas.Bool.{or_parts, not-false}
 use Rattle.format.specs.declared.Pixel.{Pixel}
 use Rattle.format.specs.Indices.{some}
 use Rattle.format.specs.Pixel.{pixel}
-use Rattle.format.specs.Picture.{Picture}
+use lib.ListN.{length, take}
+use lib.Seq.{length-take-le}
+use Rattle.format.specs.Picture.{Picture, pixels}
 use Rattle.format.specs.ColorTable.{per_pixel, range, index_of, has_entry, index_at, digits}
 use Rattle.format.specs.Made.{columns, made}
 use Rattle.format.proofs.ColorTable.{digits_same, digits_below, index_inside, index_last}
 use Rattle.color_table.proofs.Digits.{base_of, small_more, weight_small}
 use Rattle.color_table.specs.Found.{found}
+use Rattle.color_table.proofs.Fronts.{found_front}
 use Rattle.color_table.proofs.Index.{has_found}
 use Rattle.item.specs.Table.{record_from, joined_made, repeated_made, Room}
 use Rattle.item.proofs.Items.{made-item}
@@ -54,6 +58,12 @@ repeated_item size e n m v r i b w a q c z d = rw (a, ← q, c, z, d) refl
 pub fewer_fit : (u n m : ℕ) → 1 ≤ u → n ≤ m → u ^ m ≤ 256 → u ^ n ≤ 256
 fewer_fit u n m p l f = omega (arith, pow-le-pow_right p l)
 
+-- looking among the entries' bytes alone
+pub found_entries : (size : ℕ) (xs : List ℕ) (v : Pixel) (r : Option ℕ) → 4 * size ≤ length xs → r ≡ found (length (take (4 * size) xs) / 4) (pixels (take (4 * size) xs)) v → r ≡ found size (pixels xs) v
+found_entries size xs v r fits e =
+    let n : length (take (4 * size) xs) / 4 ≡ size = omega (arith, length-take-le (4 * size) xs fits) in
+    e ∙ rw n (found_front size (4 * size) xs v (omega arith))
+
 -- an index that is found is that of an entry
 pub found_inside : (size : ℕ) (e : Picture) (v : Pixel) (i : ℕ) → Some i ≡ found size e v → i < size
 found_inside size e v i q =
@@ -78,18 +88,6 @@ again_fits u i k n b l m h t =
 -- one index more fits a byte
 pub byte_fits : (size u w i g : ℕ) → u * g + u ≤ 256 → w ≡ u → i < size → size ≤ w → i + w * g < 256
 byte_fits size u w i g r d l f = rw d (omega arith)
-
-or_left : (a b : Bool) → (a || b) ≡ false → a ≡ false
-or_left false b e = refl
-or_left true b e = e
-
-or_right : (a b : Bool) → (a || b) ≡ false → b ≡ false
-or_right false b e = e
-or_right true b e = absurd (let z : ◌≡◌ {A = ℕ} 0 1 = cc in omega arith)
-
-not_false : (b : Bool) → not b ≡ false → b ≡ true
-not_false true e = refl
-not_false false e = sym e
 
 module _ (w size : ℕ) (e f : Picture) (y : ℕ) where
   abbrev u : ℕ
@@ -151,7 +149,7 @@ module _ (w size : ℕ) (e f : Picture) (y : ℕ) where
           ∙ rw b (repeated-made size e n (was (y * w + x)) (f (y * w + x)) ∙ rw (z, columns_here m x (omega arith), columns_past m (x + 1) (omega arith), byte_last (suc m) x l, lacking (y * w + x), or-false))
 
       has : (q : ℕ) → t q ≡ false → index_of size e (f q) < size
-      has q z = ltb-true (index_of size e (f q)) size (not_false (has_entry size e (f q)) (or_right (was q) (not (has_entry size e (f q))) (sym (lacking q) ∙ z)))
+      has q z = ltb-true (index_of size e (f q)) size (not-false (has_entry size e (f q)) (or_parts (was q) (not (has_entry size e (f q))) (sym (lacking q) ∙ z)).1)
 
       -- indices that were found are digits
       byte_small : size ≤ u → 1 ≤ u → (n x : ℕ) → x < w → some t (columns w y n x) ≡ false → byte n x < u ^ n
@@ -159,15 +157,15 @@ module _ (w size : ℕ) (e f : Picture) (y : ℕ) where
       byte_small fits pos zero x l z = one-le-pow 0 u pos
       byte_small fits pos (suc n) x l z = go (dec_lt (x + 1) w) (byte_small fits pos n (x + 1))
         where
-          c : (t (y * w + x) || some t (columns w y n (x + 1))) ≡ false
-          c = ap (some t) (sym (columns_here n x l)) ∙ z
+          c : (t (y * w + x) ≡ false) × (some t (columns w y n (x + 1)) ≡ false)
+          c = or_parts (t (y * w + x)) (some t (columns w y n (x + 1))) (ap (some t) (sym (columns_here n x l)) ∙ z)
 
           i : index_of size e (f (y * w + x)) < size
-          i = has (y * w + x) (or_left (t (y * w + x)) (some t (columns w y n (x + 1))) c)
+          i = has (y * w + x) c.0
 
           go : Dec (x + 1 < w) → (x + 1 < w → some t (columns w y n (x + 1)) ≡ false → byte n (x + 1) < u ^ n) → byte (suc n) x < u ^ suc n
           go (yes m) ih =
-              let r = ih m (or_right (t (y * w + x)) (some t (columns w y n (x + 1))) c) in
+              let r = ih m c.1 in
               rw (byte_more n x, index_inside w size e f y x l, pow-succ' u n) (small_more (u ^ n) (index_of size e (f (y * w + x))) u (byte n (x + 1)) (omega (arith, i)) r)
           go (no m) ih = rw (byte_last (suc n) x (omega arith)) (digits_below u pos (suc n) (λ k. index_of size e (f (y * w + x))) (λ k j. omega (arith, i)))
 

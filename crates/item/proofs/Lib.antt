@@ -4,3 +4,4 @@ pub mod Inside
 pub mod Columns
 pub mod Stage
 pub mod Before
+pub mod Fold

@@ -1,6 +1,6 @@
 -- A prediction does not look at neighbors that its mode does not name, and an item is missing if one that it names is.
 use Rattle.std.specs.Prelude.{Option, if◌then◌else◌}
-use mathlib.Core.Bool.{Bool, true, false, not, ◌&&◌, ◌||◌}
+use mathlib.Core.Bool.{Bool, true, false, not, ◌&&◌, ◌||◌, or_assoc, or_comm}
 use mathlib.Core.List.{List, [], ◌∷◌}
 use mathlib.Core.Path.{◌≡◌, refl, sym, ap, ◌∙◌}
 use Prim.Native.Nat.{ℕ, zero, suc, ◌+◌, ◌-◌, ◌*◌, ◌/◌, ◌%◌, ◌^◌, ◌<◌, ◌≤◌}
@@ -83,9 +83,7 @@ module _ (ms : List ℕ) where
       alike false false e = refl
 
 or_swap : (a b c : Bool) → (a || (b || c)) ≡ (b || (a || c))
-or_swap true true c = refl
-or_swap true false c = refl
-or_swap false b c = refl
+or_swap a b c = sym (or_assoc a b c) ∙ ap (λ (d : Bool). d || c) (or_comm a b) ∙ or_assoc b a c
 
 -- one of the neighbors that are named passes the test t
 module _ (t : ℕ → Bool) (l tp tr tl : ℕ) where

@@ -35,8 +35,8 @@ items_after p k = p.opened.chain.height * width_after p.opened.chain k
 abbrev pub item_of : Painted → ℕ → ℕ → Option Pixel
 item_of p k q = made_item (step_of p) p.opened.«data».now k (picture_of p) q
 
--- a place is inside the stage before record k. As a type it would carry the record, and callers that have k would still
--- have to say that it is record k
+-- a place is inside the stage before record k. No struct has this as its ghost field: of the three values two are what
+-- a function is asked about, and a caller that has k would still have to say that the struct's k is this one
 pub record Stands (p : Painted) (k : ℕ) (at : Place) : Type 0 where
   pub step : k < p.opened.chain.count
   pub column : at.x < (step_of p k).width

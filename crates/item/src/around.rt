@@ -4,6 +4,7 @@ ghost use Rattle.item.specs.Neighbors.{neighbor_at, order};
 
 use crate::place::{Place, Stage};
 
+// Which neighbor. What stands at all four is a `predictor::neighbors::Neighbors`.
 #[derive(Clone, Copy)]
 pub enum Neighbor {
     Left = 0,

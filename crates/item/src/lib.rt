@@ -28,7 +28,10 @@ use color::subtract_green::store_pixel;
 use format::{Pixel, TransformType};
 use pixel::pixel::{CLEAR, pixel_at};
 use pixel::stride::{Expanded, packed_width, per_pixel};
+use predictor::neighbors::Neighbors;
 
+// Most methods take k, the number of a record, beside the picture: the recursion counts it down. That item q is one of
+// stage k is asked of each, as of any index.
 impl<'a> Painted<'a> {
     // Pixel q of the picture, where the point is painted.
     #[tactic(auto, using(crate::proofs::Before::shown_here, crate::proofs::Before::shown_off))]
@@ -107,10 +110,12 @@ impl<'a> Painted<'a> {
         residual_of(
             mode,
             self.item(k, q),
-            self.neighbor(k, mode, Neighbor::Left, at),
-            self.neighbor(k, mode, Neighbor::Top, at),
-            self.neighbor(k, mode, Neighbor::TopRight, at),
-            self.neighbor(k, mode, Neighbor::TopLeft, at),
+            Neighbors {
+                l: self.neighbor(k, mode, Neighbor::Left, at),
+                t: self.neighbor(k, mode, Neighbor::Top, at),
+                tr: self.neighbor(k, mode, Neighbor::TopRight, at),
+                tl: self.neighbor(k, mode, Neighbor::TopLeft, at),
+            },
         )
     }
 

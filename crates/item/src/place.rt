@@ -3,7 +3,8 @@ ghost use Rattle.std.specs.Prelude.{◌≡◌, ℕ, ◌+◌, ◌*◌, ◌/◌, �
 
 use pixel::stride::{Expanded, Packed};
 
-// How many columns a row has, by a type that says what is counted.
+// How many columns a row has, by a type that says what is counted. The impls are alike: document 01 asks for two tuple
+// structs, packed and expanded columns, and one type with a marker or a const parameter would take as many names.
 pub trait Stride: Copy {
     ghost columns: { Self → ℕ };
 

@@ -5,18 +5,19 @@ ghost use Rattle.item.specs.Made.{residual_made};
 use format::Pixel;
 use pixel::pixel::subtract_pixels;
 use predictor::mode::predict_pixel;
+use predictor::neighbors::Neighbors;
 
-// The residual of an item, by its neighbors L, T, TR and TL.
+// The residual of an item by its neighbors.
 #[tactic(auto, unfolding(crate::specs::Made::residual_made))]
-pub fn residual_of(
-    mode: u8,
-    v: Option<Pixel>,
-    l: Option<Pixel>,
-    t: Option<Pixel>,
-    tr: Option<Pixel>,
-    tl: Option<Pixel>,
-) -> Option<Pixel>
-    ensures { result ≡ residual_made mode v l t tr tl }
+pub fn residual_of(mode: u8, v: Option<Pixel>, n: Neighbors<Option<Pixel>>) -> Option<Pixel>
+    ensures { result ≡ residual_made mode v n.l n.t n.tr n.tl }
 {
-    Some(subtract_pixels(v?, predict_pixel(mode, l?, t?, tr?, tl?)))
+    let v = v?;
+    let n = Neighbors {
+        l: n.l?,
+        t: n.t?,
+        tr: n.tr?,
+        tl: n.tl?,
+    };
+    Some(subtract_pixels(v, predict_pixel(mode, n)))
 }

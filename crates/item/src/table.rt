@@ -24,23 +24,19 @@ pub fn record_of(byte: u8) -> Pixel
 }
 
 // The byte of n positions that all have the index i.
-#[tactic(auto, using(crate::proofs::Columns::again_fits))]
 fn repeated_index(i: usize, n: usize, range: usize) -> u8
     requires { (i < range) × (range ^ n ≤ 256) }
     ensures { result ≡ digits range n (λ k. i) }
 {
-    let mut byte = 0;
-    for _ in 0..n {
-        byte = i + range * byte;
-    }
-    byte as u8
+    (0..n).fold(0, |byte, _| i + range * byte) as u8
 }
 
 // The lowest index of a pixel that has an entry.
+#[tactic(auto, using(crate::proofs::Columns::found_entries))]
 fn index(entries: &Entries, v: Pixel) -> Option<usize>
     ensures { result ≡ found entries.now.size (pixels entries.now.bytes.now) v }
 {
-    scan(entries.bytes, entries.size, Word::from(v))
+    scan(&entries.bytes[..4 * entries.size], Word::from(v))
 }
 
 // The record of n positions that all have the index of an item.

@@ -1,6 +1,7 @@
 // The calls for the Rust host, over numbers and byte slices. Each contract gives the refusal by its number and every
 // byte of every lent buffer, on every input. Width, height, chain and data stand apart, as in the papers' calls, whose
-// parameters the definitions name. `letchwater_c` exports them.
+// parameters the definitions name. Contracts of the crates below stand here again: a call takes numbers of 32 bits
+// where those take `usize`, and is all that a host has to read. `letchwater_c` exports the calls.
 #![tactic(auto)]
 
 ghost use Rattle.std.specs.Prelude.{◌≡◌};
@@ -21,8 +22,8 @@ use retouch::changes::Changes;
 use retouch::retouch::retouch;
 use store::store::store;
 
-// The number that a call returns to the host: 0 where it is not refused. It is no plainer with the next in one: `()` has
-// no number by `From`.
+// The number that a call returns to the host: 0 where it is not refused. It is no plainer with the next in one: `()`
+// has no number by `From`.
 pub fn number(outcome: Result<(), Refusal>) -> u32
     ensures { result ≡ returned outcome }
 {

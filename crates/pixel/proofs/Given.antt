@@ -19,15 +19,6 @@ pub given_none : (f : Picture) (a : ℕ) (xs : List ℕ) → xs ≡ run pixel_ce
 unfolding run
 given_none f a xs = refl
 
--- one pixel more, front to back
-pub given_put : (f : Picture) (a k : ℕ) (xs₀ xs ys : List ℕ) (v : Pixel) → xs ≡ run pixel_cells (given f) a k xs₀ → v ≡ f (a + k) → ys ≡ put_pixel xs (a + k) v
-    → ys ≡ run pixel_cells (given f) a (k + 1) xs₀
-unfolding run given
-given_put f a k xs₀ xs ys v e q p =
-    let n : suc k ≡ k + 1 = omega arith in
-    let s : put_pixel xs (a + k) v ≡ put_pixel (run pixel_cells (given f) a k xs₀) (a + k) (f (a + k)) = cc in
-    p ∙ s ∙ ap (λ (m : ℕ). run pixel_cells (given f) a m xs₀) n
-
 -- a pixel behind those that are written may be written first
 given_after : (f : Picture) (a n : ℕ) (xs : List ℕ) (i : ℕ) (v : Pixel) → a + n ≤ i → run pixel_cells (given f) a n (put_pixel xs i v) ≡ put_pixel (run pixel_cells (given f) a n xs) i v
 unfolding run given

@@ -1,7 +1,8 @@
 -- How a row's buffer comes to hold a row, and how the row goes back into a picture.
-use Rattle.std.proofs.Common.{◌≡◌, ℕ, ◌+◌, ◌-◌, ◌*◌, ◌<◌, ◌≤◌, List, length, sym, ap, ◌∙◌, arith}
+use Rattle.std.proofs.Common.{◌≡◌, ℕ, ◌+◌, ◌-◌, ◌*◌, ◌<◌, ◌≤◌, List, length, sym, ◌∙◌, arith}
 use Rattle.format.specs.declared.Pixel.{Pixel}
 use Rattle.format.specs.Picture.{Picture, pixels}
+use Rattle.format.proofs.Written.{pixels_same}
 use Rattle.pixel.specs.Cells.{pixel_cells, Rule, run, given}
 use Rattle.pixel.specs.Held.{HoldsRow}
 use Rattle.pixel.proofs.Cells.{pixel_lawful, run_at, run_after}
@@ -13,7 +14,7 @@ pub held_run : (h : Rule Pixel) (g : Picture) (y w : ℕ) (xs ys : List ℕ) →
 held_run h g y w xs ys e s l x u =
     let r = run_at pixel_cells pixel_lawful h 0 xs w x (omega arith) (omega arith) (omega arith) in
     let k = run_after pixel_cells pixel_lawful h 0 xs (x - 0) x (omega arith) in
-    ap (λ (zs : List ℕ). pixels zs x) e ∙ r ∙ s (pixels (run pixel_cells h 0 (x - 0) xs)) x u k
+    pixels_same e x ∙ r ∙ s (pixels (run pixel_cells h 0 (x - 0) xs)) x u k
 
 -- a row copied into its part of a picture, which comes back as ys
 pub held_back : (g : Picture) (y w : ℕ) (zs xs ys : List ℕ) → ys ≡ run pixel_cells (given (pixels zs)) 0 w (part (y * w) w xs) → HoldsRow g y w zs → 4 * (y * w) + 4 * w ≤ length xs

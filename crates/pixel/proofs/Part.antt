@@ -1,21 +1,14 @@
 -- A part of a buffer that is lent and comes back: pixels replaced in order in the part are pixels replaced in order in
 -- the whole.
-use Rattle.std.proofs.Common.{◌≡◌, ℕ, zero, suc, ◌+◌, ◌-◌, ◌*◌, ◌<◌, ◌≤◌, List, [], ◌∷◌, ◌++◌, length, take, drop, set, sym, refl, ap, ◌∙◌, add-zero, add_assoc, suc-add, zero-add, arith, length-drop, length-set, take-append-drop, length-take-le, get_or-drop, get_or-take, get_or-append-add}
+use Rattle.std.proofs.Common.{◌≡◌, ℕ, zero, suc, ◌+◌, ◌-◌, ◌*◌, ◌<◌, ◌≤◌, List, ◌++◌, length, take, drop, set, sym, refl, ap, ◌∙◌, add-zero, add_assoc, arith, length-drop, length-set, take-append-drop, length-take-le, get_or-drop, get_or-take, get_or-append-add}
 use lib.ListN.{get_or-append}
-use lib.Seq.{set-append_left}
+use Rattle.std.proofs.lemmas.List.{set-append_left, set-append_right}
 use Rattle.format.specs.declared.Pixel.{Pixel}
 use Rattle.format.specs.Picture.{Picture, byte_at, pixels}
 use Rattle.pixel.specs.Cells.{pixel_cells, put_pixel, Rule, run, given}
 use Rattle.pixel.proofs.Cells.{pixel_lawful, length_run}
-
-set_append_add : (xs ys : List ℕ) (n v : ℕ) → set (xs ++ ys) (length xs + n) v ≡ xs ++ set ys n v
-set_append_add [] ys n v = ap (λ (k : ℕ). set ys k v) (zero-add n)
-set_append_add (x ∷ xs) ys n v =
-    ap (λ (k : ℕ). set (x ∷ (xs ++ ys)) k v) (suc-add (length xs) n) ∙ ap (λ (r : List ℕ). x ∷ r) (set_append_add xs ys n v)
-
 -- the whole, once the part of k bytes from a is back as z
-abbrev pub back : ℕ → ℕ → List ℕ → List ℕ → List ℕ
-back a k xs z = take a xs ++ (z ++ drop k (drop a xs))
+pub use borrow.Rule.Slice.PartMut.{put_mid as back}
 
 module _ (a k : ℕ) (xs z : List ℕ) (fits : a + k ≤ length xs) (full : length z ≡ k) where
   byte-back : (i j : ℕ) → i ≡ a + j → j < k → byte_at (back a k xs z) i ≡ byte_at z j
@@ -28,10 +21,9 @@ module _ (a k : ℕ) (xs z : List ℕ) (fits : a + k ≤ length xs) (full : leng
   set_back : (i j v : ℕ) → i ≡ a + j → j < k → set (back a k xs z) i v ≡ back a k xs (set z j v)
   set_back i j v e h =
       let l : length (take a xs) ≡ a = length-take-le a xs (omega arith) in
-      let n : i ≡ length (take a xs) + j = omega arith in
+      let n : i - a ≡ j = omega arith in
       let w : j < length z = omega arith in
-      ap (λ (m : ℕ). set (back a k xs z) m v) n ∙ set_append_add (take a xs) (z ++ drop k (drop a xs)) j v
-      ∙ ap (λ (r : List ℕ). take a xs ++ r) (set-append_left z (drop k (drop a xs)) j v w)
+      set-append_right (take a xs) (z ++ drop k (drop a xs)) a i v l (omega arith) ∙ rw (n, set-append_left z (drop k (drop a xs)) j v w) refl
 
 -- bytes before the part
 byte_before : (a k : ℕ) (xs z : List ℕ) → a ≤ length xs → (i : ℕ) → i < a → byte_at (back a k xs z) i ≡ byte_at xs i

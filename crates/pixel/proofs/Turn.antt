@@ -1,13 +1,14 @@
 -- A turn of a loop that replaces a pixel.
-use Rattle.std.proofs.Common.{◌≡◌, ℕ, ◌+◌, ◌-◌, ◌*◌, ◌≤◌, List, length, sym, ap, ◌∙◌, arith}
+use Rattle.std.proofs.Common.{◌≡◌, ℕ, ◌+◌, ◌-◌, ◌*◌, ◌≤◌, List, length, sym, ◌∙◌, arith}
 use Rattle.format.specs.declared.Pixel.{Pixel}
 use Rattle.format.specs.Picture.{pixels}
+use Rattle.format.proofs.Written.{pixels_same}
 use Rattle.pixel.specs.Cells.{pixel_cells, put_pixel, Rule, run}
 use Rattle.pixel.proofs.Cells.{pixel_same, run_more}
 
 -- the pixel that was put
 pub put_read : (xs ys : List ℕ) (i : ℕ) (v : Pixel) → ys ≡ put_pixel xs i v → 4 * i + 4 ≤ length xs → v ≡ pixels ys i
-put_read xs ys i v e h = sym (ap (λ (zs : List ℕ). pixels zs i) e ∙ pixel_same xs i v h)
+put_read xs ys i v e h = sym (pixels_same e i ∙ pixel_same xs i v h)
 
 -- it is the left neighbor of the next
 pub left_next : (xs ys : List ℕ) (i : ℕ) (v : Pixel) → ys ≡ put_pixel xs i v → 4 * i + 4 ≤ length xs → v ≡ pixels ys (i + 1 - 1)

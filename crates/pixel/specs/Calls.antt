@@ -15,6 +15,20 @@ abbrev pub Gives : {C P : Type 0} → Cells P → (C → P) → (Bor (List ℕ) 
 Gives {C} c value post n a b h =
     (ys : Bor (List ℕ)) (i : ℕ) (v : C) → length ys.now ≡ n → a ≤ i → i < b → post ys i v → value v ≡ h (c.get ys.now) i
 
+-- a function of the pixel in its place alone: it may be asked of any pixel, and gives what t gives
+abbrev pub AskedOf : (Pixel → Type 0) → Type 0
+AskedOf pre = (v : Pixel) → pre v
+
+abbrev pub GivesOf : (Pixel → Pixel → Type 0) → (Pixel → Pixel) → Type 0
+GivesOf post t = (v u : Pixel) → post v u → u ≡ t v
+
+-- the same of a function of the index alone
+abbrev pub AskedAt : (ℕ → Type 0) → ℕ → ℕ → Type 0
+AskedAt pre a b = (i : ℕ) → a ≤ i → i < b → pre i
+
+abbrev pub GivesAt : {C P : Type 0} → (C → P) → (ℕ → C → Type 0) → ℕ → ℕ → (ℕ → P) → Type 0
+GivesAt {C} value post a b f = (i : ℕ) (v : C) → a ≤ i → i < b → post i v → value v ≡ f i
+
 -- the same of a rule that is given the pixel before as well
 abbrev pub AskedLeft : (Bor (List ℕ) → ℕ → Pixel → Type 0) → ℕ → ℕ → ℕ → Type 0
 AskedLeft pre n a b =

@@ -39,3 +39,7 @@ run c h a (suc n) xs = c.put (run c h a n xs) (a + n) (h (c.get (run c h a n xs)
 -- the rule that gives each cell by its index alone
 unfoldable pub given : {P : Type 0} → (ℕ → P) → Rule P
 given f p i = f i
+
+-- the rule that makes each cell of the one in its place
+unfoldable pub of_its_own : {P : Type 0} → (P → P) → Rule P
+of_its_own t p i = t (p i)

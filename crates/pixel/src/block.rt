@@ -6,6 +6,7 @@ ghost use Rattle.pixel.specs.Blocks.{BlockedRow, block_start};
 ghost use Rattle.pixel.specs.Held.{HoldsRow};
 
 use crate::pixel::pixel_at;
+use crate::row::row_bytes;
 use format::Pixel;
 
 // The side of a block.
@@ -22,6 +23,14 @@ pub fn subsample_size(size: usize, bits: u32) -> usize
     ensures { result ≡ ceiling size (2 ^ bits) }
 {
     size.div_ceil(side(bits))
+}
+
+// The first column of block k of a row; the row's end past the last block.
+pub fn block_start(width: usize, bits: u32, k: usize) -> usize
+    requires { (width ≤ 16384) × (bits ≤ 9) × (k ≤ ceiling width (2 ^ bits)) }
+    ensures { result ≡ block_start width bits k }
+{
+    (k * side(bits)).min(width)
 }
 
 // The data pixels of a row's blocks.
@@ -41,12 +50,12 @@ impl<'a> BlockRow<'a> {
         subsample_size(self.width, self.bits)
     }
 
-    // The first column of block k; the row's end past the last block.
+    // The first column of block k.
     pub fn start(&self, k: usize) -> usize
         requires { k ≤ ceiling self.now.width (2 ^ self.now.bits) }
         ensures { result ≡ block_start self.now.width self.now.bits k }
     {
-        (k * side(self.bits)).min(self.width)
+        block_start(self.width, self.bits, k)
     }
 
     // The data pixel of block k.
@@ -78,12 +87,10 @@ impl<'a> Blocks<'a> {
             (ceiling self.now.width (2 ^ self.now.bits)) result.bytes.now }
     {
         let columns = subsample_size(self.width, self.bits);
-        let from = 4 * ((y >> self.bits) * columns);
-        let to = from + 4 * columns;
         BlockRow {
             width: self.width,
             bits: self.bits,
-            bytes: &self.bytes[from..to],
+            bytes: &self.bytes[row_bytes(y >> self.bits, columns)],
         }
     }
 

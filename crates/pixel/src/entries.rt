@@ -1,7 +1,8 @@
 // The entries of a color table.
 ghost use Rattle.std.specs.Prelude.{◌*◌, ◌≤◌, length};
 
-// Colors of four bytes, by their index.
+// Colors of four bytes, by their index. `size` stands beside the bytes, as in a chain's record: all that is said of a
+// table names it.
 #[derive(Clone, Copy)]
 pub struct Entries<'a> {
     pub bytes: &'a [u8],

@@ -8,6 +8,7 @@ ghost use Rattle.pixel.specs.Distance.{between};
 ghost use Rattle.pixel.specs.Cells.{put_pixel};
 
 use crate::byte::distance;
+use crate::choice::pick;
 use format::Pixel;
 
 pub const BLACK: Pixel = Pixel {
@@ -24,7 +25,7 @@ pub const CLEAR: Pixel = Pixel {
     alpha: 0,
 };
 
-// Pixel i of the bytes xs.
+// Pixel i of the bytes xs. That it is there is asked where a pixel is read or written, as of any index.
 pub fn pixel_at(xs: &[u8], i: usize) -> Pixel
     requires { 4 * i + 4 ≤ length xs.now }
     ensures { result ≡ pixels xs.now i }
@@ -88,12 +89,6 @@ pub fn pixel_distance(u: Pixel, v: Pixel) -> u32
         + distance(u.green, v.green)
         + distance(u.blue, v.blue)
         + distance(u.alpha, v.alpha)
-}
-
-fn pick(first: bool, a: u8, b: u8) -> u8
-    ensures { result ≡ (if first then a else b) }
-{
-    if first { a } else { b }
 }
 
 // Channel by channel, which compiles to no branch.

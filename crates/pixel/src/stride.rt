@@ -26,7 +26,7 @@ pub fn per_pixel(size: usize) -> usize
     }
 }
 
-// The packed columns of a row.
+// The packed columns of a row. The bound on columns is asked and is not in their type: `unpack_row_at` asks none.
 pub fn packed_width(expanded: Expanded, size: usize) -> Packed
     requires { expanded.0 ≤ 16384 }
     ensures { result.0 ≡ packed_width size expanded.0 }

@@ -1,5 +1,5 @@
-// A pixel in one number of 32 bits. The four byte reads, summed, and the four byte stores compile to one load and one
-// store of 32 bits each, so that a loop over pixels is vectorized.
+// A pixel in one number of 32 bits. Four bytes that are read or written compile to one load or store of 32 bits, so
+// that a loop over pixels is vectorized.
 ghost use Rattle.std.specs.Prelude.{◌≡◌, ◌+◌, ◌*◌, ◌≤◌, length};
 ghost use Rattle.format.specs.declared.Pixel.{Pixel};
 ghost use Rattle.format.specs.Pixel.{equal};
@@ -33,7 +33,7 @@ impl Model for Word {
     ghost inverse_ok = { λ w below i. record { bits = number-unword w.bits below i } };
 }
 
-// Alike in all four bytes.
+// Alike in all four bytes. Written out, since a derived `==` is that of two numbers, and definitions say `equal`.
 impl PartialEq for Word {
     ghost eq = { equal };
 
@@ -74,7 +74,7 @@ impl From<Word> for Pixel {
     ghost from_gives = { λ w v. v ≡ w };
 
     fn from(w: Word) -> Pixel {
-        let [red, green, blue, alpha] = w.bits.to_le_bytes();
+        let [red, green, blue, alpha] = <[u8; 4]>::from(w);
         Pixel {
             red,
             green,
@@ -97,7 +97,8 @@ impl Word {
     pub fn number(self) -> u32
         ensures { result ≡ number self }
     {
-        self.bits
+        let Word { bits } = self;
+        bits
     }
 }
 
@@ -110,7 +111,7 @@ impl Cell for Word {
 
     fn put(self, xs: &mut [u8], i: usize) {
         let j = 4 * i;
-        let [red, green, blue, alpha] = self.bits.to_le_bytes();
+        let [red, green, blue, alpha] = <[u8; 4]>::from(self);
         xs[j] = red;
         xs[j + 1] = green;
         xs[j + 2] = blue;

@@ -99,15 +99,15 @@ module _ (w bits y : ℕ) (D d : Picture) (off : 1 ≤ y) (blocks : (j : ℕ) �
 pub pair_there : (w h y : ℕ) → 1 ≤ y → y < h → (y - 1) * w + 2 * w ≤ h * w
 pair_there w h y off below = omega (arith, row_there w h y below, row_above w y (λ z. omega arith))
 
--- row y, by blocks whose data is the part rs
-pub row_back : (w h bits y : ℕ) (bs rs xs : List ℕ) → Holds w h xs → 1 ≤ y → y < h → HoldsRow (pixels bs) (y / 2 ^ bits) (ceiling w (2 ^ bits)) rs → (k : ℕ) → k ≡ 8 * w
-    → back (4 * ((y - 1) * w)) k xs (run pixel_cells (gains (row_predicted w bits (pixels rs))) w w (take k (drop (4 * ((y - 1) * w)) xs)))
-    ≡ run pixel_cells (gained w bits (pixels bs)) (y * w) w xs
+-- row y, by blocks whose data is the part rs, once the bytes from the start a of row y - 1 up to the end b of row y are back
+pub row_back : (w h bits y a b : ℕ) (bs rs xs : List ℕ) → a ≡ 4 * ((y - 1) * w) → b ≡ 4 * (y * w) + 4 * w → Holds w h xs → 1 ≤ y → y < h
+    → HoldsRow (pixels bs) (y / 2 ^ bits) (ceiling w (2 ^ bits)) rs
+    → back a (b - a) xs (run pixel_cells (gains (row_predicted w bits (pixels rs))) w w (take (b - a) (drop a xs))) ≡ run pixel_cells (gained w bits (pixels bs)) (y * w) w xs
 unfolding gained
-row_back w h bits y bs rs xs room off below blocks k f =
+row_back w h bits y a b bs rs xs start end room off below blocks =
     let up = row_above w y (λ z. omega arith) in
-    let k2 : k ≡ 4 * (w + w) = omega arith in
-    rw (k2, ← up)
+    let k : b - 4 * ((y - 1) * w) ≡ 4 * (w + w) = omega arith in
+    rw (start, k, ← up)
     (part_run (gained w bits (pixels bs)) (gains (row_predicted w bits (pixels rs))) ((y - 1) * w) (w + w) w xs (omega (arith, pair_there w h y off below)) w (omega arith)
     (λ p q i l u agree. cc (agree i u, row-predicted w bits y (pixels bs) (pixels rs) off blocks p q agree i l u)))
 
@@ -127,7 +127,7 @@ module _ (w bits : ℕ) (D : Picture) where
       let b : v ≡ gained w bits D (pixels xs) 0 = q ∙ ap (each add (pixels xs 0)) (sym (predicted_first w bits D (pixels xs) h)) in
       run_then (gained w bits D) 1 (w - 1) w xs ys zs (e ∙ ap (put_pixel xs 0) b) r (omega arith)
 
-  -- its part of the picture, which starts with it, comes back as ys
+  -- its part of the picture, from byte a up to byte b, comes back as ys
   gained_first : (p q : ℕ → Pixel) (i : ℕ) → i < w → ((j : ℕ) → j < w → p j ≡ q j) → gained w bits D p i ≡ gained w bits D q i
   unfolding gained
   gained_first p q i l agree = go (ℕ_discrete i 0)
@@ -137,9 +137,11 @@ module _ (w bits : ℕ) (D : Picture) where
       go (no n) =
           cc (agree i l, agree (i - 1) (omega arith), predicted_left w bits D p i (omega arith) l, predicted_left w bits D q i (omega arith) l)
 
-  pub first_back : (y k : ℕ) (xs ys : List ℕ) → ys ≡ run pixel_cells (gained w bits D) 0 w (take k (drop 0 xs)) → y ≡ 0 → k ≡ 4 * w → 4 * w ≤ length xs
-      → back 0 k xs ys ≡ run pixel_cells (gained w bits D) (y * w) w xs
-  first_back y k xs ys e z f fits =
-      rw (e, f, z, zero-mul)
+  pub first_back : (y a b : ℕ) (xs ys : List ℕ) → a ≡ 4 * (0 * w) → b ≡ 4 * (0 * w) + 4 * w → ys ≡ run pixel_cells (gained w bits D) 0 w (take (b - a) (drop a xs)) → y ≡ 0 → 4 * w ≤ length xs
+      → back a (b - a) xs ys ≡ run pixel_cells (gained w bits D) (y * w) w xs
+  first_back y a b xs ys start end e z fits =
+      let s : a ≡ 0 = omega arith in
+      let k : b - 0 ≡ 4 * w = omega arith in
+      rw (e, s, k, z, zero-mul)
       (part_run (gained w bits D) (gained w bits D) 0 w 0 xs (omega arith) w (omega arith)
       (λ p q i l u agree. rw zero-add (gained_first p q i (omega arith) (λ j o. rw zero-add at (agree j o)))))

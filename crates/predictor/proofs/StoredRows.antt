@@ -1,5 +1,5 @@
 -- Rows stored: a row's residuals in its buffer are the picture's.
-use Rattle.std.proofs.Common.{◌≡◌, ℕ, ◌+◌, ◌-◌, ◌*◌, ◌/◌, ◌^◌, ◌<◌, ◌≤◌, List, length, sym, ap, ◌∙◌, zero-add, zero-mul, arith}
+use Rattle.std.proofs.Common.{◌≡◌, ℕ, ◌+◌, ◌-◌, ◌*◌, ◌/◌, ◌^◌, ◌<◌, ◌≤◌, List, length, take, drop, sym, ap, ◌∙◌, zero-add, zero-mul, arith}
 use native.Mathlib.Decide.{dec_lt}
 use Rattle.format.specs.declared.Pixel.{Pixel}
 use Rattle.format.specs.Byte.{sub}
@@ -10,11 +10,20 @@ use Rattle.format.proofs.Predictor.{row_above}
 use Rattle.pixel.specs.Cells.{pixel_cells, put_pixel, run, given}
 use Rattle.pixel.specs.Held.{HoldsRow}
 use Rattle.pixel.proofs.Held.{held_run}
+use Rattle.pixel.proofs.Part.{pixels_part}
 use Rattle.pixel.proofs.Rows.{run_then}
 use Rattle.predictor.specs.Row.{residual, row_predicted}
 use Rattle.predictor.proofs.Rows.{predicted_first, predicted_left, row-predicted}
 
 -- row 0
+
+-- the second of two rows, as it is lent from byte a up to byte b
+pub second_row : (w a b : ℕ) (rows : List ℕ) → a ≡ 4 * (1 * w) → b ≡ 4 * (1 * w) + 4 * w → length rows ≡ 8 * w → (x : ℕ) → x < w
+    → pixels (take (b - a) (drop a rows)) x ≡ pixels rows (w + x)
+second_row w a b rows start end two x u =
+    let s : a ≡ 4 * w = omega arith in
+    let e : b ≡ 4 * w + 4 * w = omega arith in
+    rw (e, s) (pixels_part w w rows (omega arith) x u)
 
 module _ (w bits : ℕ) (D f : Picture) (row : List ℕ) (wide : 1 ≤ w) (holds : HoldsRow f 0 w row) where
   at : (x : ℕ) → x < w → pixels row x ≡ f x

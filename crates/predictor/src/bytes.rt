@@ -4,14 +4,16 @@ ghost use Rattle.std.specs.Prelude.{◌≡◌, ◌+◌, ◌≤◌, ◌<◌, leng
 ghost use Rattle.format.specs.Picture.{byte_at};
 ghost use Rattle.predictor.specs.Bytewise.{predict_byte, byte_around};
 
+use crate::neighbors::Neighbors;
 use pixel::byte::{average2, average4, clamp_add_subtract_full, clamp_add_subtract_half};
 
 // Of modes 0 and 11, which do not go channel by channel, it is 0.
 #[inline(always)]
 #[tactic(auto, unfolding(crate::specs::Bytewise::predict_byte))]
-pub fn predict_byte(mode: u8, l: u8, t: u8, tr: u8, tl: u8) -> u8
-    ensures { result ≡ predict_byte mode l t tr tl }
+pub fn predict_byte(mode: u8, n: Neighbors<u8>) -> u8
+    ensures { result ≡ predict_byte mode n.l n.t n.tr n.tl }
 {
+    let Neighbors { l, t, tr, tl } = n;
     match mode {
         0 => 0,
         1 => l,
@@ -40,9 +42,11 @@ pub fn byte_around<const MODE: u8>(rows: &[u8], stride: usize, i: usize) -> u8
 {
     predict_byte(
         MODE,
-        rows[i - 4],
-        rows[i - stride],
-        rows[i - stride + 4],
-        rows[i - stride - 4],
+        Neighbors {
+            l: rows[i - 4],
+            t: rows[i - stride],
+            tr: rows[i - stride + 4],
+            tl: rows[i - stride - 4],
+        },
     )
 }

@@ -4,16 +4,19 @@ ghost use Rattle.predictor.specs.Picture.{FirstStored, RowStored};
 
 use pixel::block::Blocks;
 use pixel::pixel::{BLACK, pixel_at, put_pixel, subtract_pixels};
-use pixel::replace::replace;
+use pixel::replace::fill;
+use pixel::row::row_bytes;
 
-// Row 0, whatever the blocks: the first pixel loses black, the others L.
+// Row 0, whatever the blocks: the first pixel loses black, the others L. It is no plainer with the row rebuilt in one:
+// that goes in place and carries L, this one reads what it never writes. The width stands beside the slices in both,
+// since the blocks have it and contracts name it.
 fn store_first_row(row: &[u8], out: &mut [u8], width: usize)
     requires { (1 ≤ width) × (4 * width ≤ length row.now) × (4 * width ≤ length out.old) }
     ensures { FirstStored width row.now out.new }
 {
     let first = subtract_pixels(pixel_at(row, 0), BLACK);
     put_pixel(out, 0, first);
-    replace(out, 1, width, |_: &[u8], x: usize| {
+    fill(out, 1, width, |x: usize| {
         subtract_pixels(pixel_at(row, x), pixel_at(row, x - 1))
     });
 }
@@ -26,9 +29,7 @@ pub fn store_row(rows: &[u8], out: &mut [u8], blocks: &Blocks, y: usize)
     ensures { RowStored blocks.now.width blocks.now.bits blocks.now.bytes.now y rows.now out.new }
 {
     if y == 0 {
-        let a = 4 * blocks.width;
-        let b = a + a;
-        store_first_row(&rows[a..b], out, blocks.width);
+        store_first_row(&rows[row_bytes(1, blocks.width)], out, blocks.width);
     } else {
         crate::row::store_row(rows, out, &blocks.row(y));
     }

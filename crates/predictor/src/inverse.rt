@@ -8,8 +8,10 @@ use format::Pixel;
 use pixel::block::Blocks;
 use pixel::pixel::{BLACK, add_pixels, pixel_at, put_pixel};
 use pixel::replace::replace_left;
+use pixel::row::row_bytes;
 
-// Row 0, whatever its blocks say: the first pixel gains black, the others L.
+// Row 0, whatever its blocks say: the first pixel gains black, the others L. The width is the blocks', which contracts
+// name.
 fn rebuild_first_row(row: &mut [u8], width: usize)
     requires { (1 ≤ width) × (4 * width ≤ length row.old) }
     ensures { FirstRebuilt width row.old row.new }
@@ -21,18 +23,17 @@ fn rebuild_first_row(row: &mut [u8], width: usize)
     });
 }
 
-// Row y, once the rows above it are rebuilt.
+// Row y, once the rows above it are rebuilt. That the image has room is asked here: facts about a lent buffer stay
+// beside it.
 pub fn rebuild_row_at(image: &mut [u8], blocks: &Blocks, y: usize)
     requires { Holds blocks.now.width blocks.now.height image.old × (y < blocks.now.height) }
     ensures { image.new ≡ predictor_row blocks.now.width blocks.now.bits blocks.now.bytes.now y image.old }
 {
     let w = blocks.width;
     if y == 0 {
-        let b = 4 * w;
-        rebuild_first_row(&mut image[0..b], w);
+        rebuild_first_row(&mut image[row_bytes(0, w)], w);
     } else {
-        let a = 4 * ((y - 1) * w);
-        let b = a + 8 * w;
-        rebuild_row(&mut image[a..b], &blocks.row(y));
+        let above = row_bytes(y - 1, w);
+        rebuild_row(&mut image[above.start..row_bytes(y, w).end], &blocks.row(y));
     }
 }

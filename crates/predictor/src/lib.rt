@@ -5,6 +5,7 @@ mod bytes;
 pub mod forward;
 pub mod inverse;
 pub mod mode;
+pub mod neighbors;
 mod residual;
 mod row;
 mod segment;

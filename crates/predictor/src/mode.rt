@@ -3,23 +3,25 @@ ghost use Rattle.std.specs.Prelude.{◌≡◌};
 ghost use Rattle.format.specs.Predictor.{predict};
 
 use crate::bytes::predict_byte;
+use crate::neighbors::Neighbors;
 use format::Pixel;
 use pixel::pixel::{BLACK, select};
 
-// Inlined where the mode is a constant.
+// Inlined where the mode is a constant. The channels are written out as in `pixel::pixel`: by a closure for each
+// channel, the loops of the modes take longer.
 #[inline(always)]
 #[tactic(auto, unfolding(format::specs::Predictor::predict))]
-pub fn predict_pixel(mode: u8, l: Pixel, t: Pixel, tr: Pixel, tl: Pixel) -> Pixel
-    ensures { result ≡ predict mode l t tr tl }
+pub fn predict_pixel(mode: u8, n: Neighbors<Pixel>) -> Pixel
+    ensures { result ≡ predict mode n.l n.t n.tr n.tl }
 {
     match mode {
         0 => BLACK,
-        11 => select(l, t, tl),
+        11 => select(n.l, n.t, n.tl),
         _ => Pixel {
-            red: predict_byte(mode, l.red, t.red, tr.red, tl.red),
-            green: predict_byte(mode, l.green, t.green, tr.green, tl.green),
-            blue: predict_byte(mode, l.blue, t.blue, tr.blue, tl.blue),
-            alpha: predict_byte(mode, l.alpha, t.alpha, tr.alpha, tl.alpha),
+            red: predict_byte(mode, n.map(|v| v.red)),
+            green: predict_byte(mode, n.map(|v| v.green)),
+            blue: predict_byte(mode, n.map(|v| v.blue)),
+            alpha: predict_byte(mode, n.map(|v| v.alpha)),
         },
     }
 }

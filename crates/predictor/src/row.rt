@@ -2,7 +2,7 @@
 ghost use Rattle.std.specs.Prelude.{◌≡◌, ◌+◌, ◌-◌, ◌*◌, ◌<◌, ◌≤◌, length};
 ghost use Rattle.predictor.specs.Row.{front_gained, front_lost};
 
-use crate::residual::store_segment;
+use crate::residual::Residuals;
 use crate::segment::{Segment, rebuild_segment};
 use pixel::block::BlockRow;
 use pixel::pixel::{add_pixels, pixel_at, put_pixel, subtract_pixels};
@@ -32,6 +32,7 @@ pub fn store_row(rows: &[u8], out: &mut [u8], blocks: &BlockRow)
     let first = subtract_pixels(pixel_at(rows, w), pixel_at(rows, 0));
     put_pixel(out, 0, first);
     for block in 0..blocks.count() {
-        store_segment(rows, out, Segment::of(blocks, block));
+        let segment = Segment::of(blocks, block);
+        Residuals { rows, segment }.store(out);
     }
 }

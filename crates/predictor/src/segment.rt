@@ -1,5 +1,7 @@
 // Segments of a row, and how they are rebuilt in place: a loop for each mode, so that the mode is not tested for each
-// pixel. `rows` holds the row above and then the row.
+// pixel. `rows` holds the row above and then the row. It is a parameter, and each function asks that it is two rows: in
+// a struct that is passed on by value it is not covered, and behind a reference to one it is not known that bytes are
+// below 256, which modes over 13 need.
 ghost use Rattle.std.specs.Prelude.{◌≡◌, ◌+◌, ◌-◌, ◌*◌, ◌^◌, ◌<◌, ◌≤◌, length};
 ghost use Rattle.format.specs.Picture.{byte_at, pixels, ceiling};
 ghost use Rattle.predictor.specs.Row.{around, gains, segment_gained, segment_start, OneMode};
@@ -7,14 +9,15 @@ ghost use Rattle.predictor.specs.Bytewise.{Channelwise, byte_gains};
 
 use crate::bytes::byte_around;
 use crate::mode::predict_pixel;
+use crate::neighbors::Neighbors;
 use crate::select::add_selected;
 use format::Pixel;
 use pixel::block::BlockRow;
 use pixel::pixel::{BLACK, add_pixels, pixel_at};
-use pixel::replace::{replace, replace_left};
-use pixel::word::Word;
+use pixel::replace::{replace, replace_left, update};
 
-// Columns `from` up to `to` of a row of `width` pixels, off column 0 and all of one mode.
+// Columns `from` up to `to` of a row of `width` pixels, off column 0 and all of one mode. The mode is a number, since
+// loops have it as a const parameter, and 242 of its 256 values have no name.
 #[derive(Clone, Copy)]
 pub struct Segment {
     pub mode: u8,
@@ -42,18 +45,17 @@ impl Segment {
     }
 }
 
-// Mode 0. A loop over words is vectorized; by `apply_predictor_transform` it goes byte by byte.
-#[tactic(auto, unfolding(format::specs::Predictor::predict))]
+// Mode 0. This loop is vectorized; by `apply_predictor_transform` it goes byte by byte.
 fn add_black(rows: &mut [u8], segment: Segment)
     requires { length rows.old ≡ 8 * segment.width }
     ensures { rows.new ≡ segment_gained 0 segment.width segment.from segment.to rows.old }
 {
     let w = segment.width;
-    replace(
+    update(
         rows,
         w + segment.from,
         w + segment.to,
-        |rows: &[u8], i: usize| Word::from(add_pixels(Pixel::from(Word::at(rows, i)), BLACK)),
+        |v: Pixel| add_pixels(v, BLACK),
     );
 }
 
@@ -73,10 +75,13 @@ fn apply_predictor_transform<const MODE: u8>(rows: &mut [u8], segment: Segment)
             requires left { left ≡ pixels rows.now (i - 1) }
             ensures { result ≡ gains (around MODE w) (pixels rows.now) i }
         {
-            let t = pixel_at(rows, i - w);
-            let tr = pixel_at(rows, i - w + 1);
-            let tl = pixel_at(rows, i - w - 1);
-            let predicted = predict_pixel(MODE, left, t, tr, tl);
+            let neighbors = Neighbors {
+                l: left,
+                t: pixel_at(rows, i - w),
+                tr: pixel_at(rows, i - w + 1),
+                tl: pixel_at(rows, i - w - 1),
+            };
+            let predicted = predict_pixel(MODE, neighbors);
             add_pixels(pixel_at(rows, i), predicted)
         },
     );
@@ -103,7 +108,7 @@ fn add_above<const MODE: u8>(rows: &mut [u8], segment: Segment)
     );
 }
 
-// By its mode; modes 14 to 255 predict zero, which changes nothing.
+// By its mode; modes 14 to 255 predict zero, which changes nothing. A `match`, since no value is a const parameter.
 #[tactic(auto, using(crate::proofs::Modes::run_over_13))]
 pub fn rebuild_segment(rows: &mut [u8], segment: Segment)
     requires { length rows.old ≡ 8 * segment.width }

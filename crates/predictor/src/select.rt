@@ -1,5 +1,5 @@
 // Mode 11 rebuilt in place. Which neighbor the next pixel takes is worked out for both values that this pixel can have,
-// so that the sum of distances does not wait for this pixel's choice, and no choice is a branch.
+// so that the sum of distances does not depend on this pixel's choice, and no choice is a branch.
 ghost use Rattle.std.specs.Prelude.{◌≡◌, ◌+◌, ◌-◌, ◌*◌, ◌≤◌, length, nat_lt, if◌then◌else◌};
 ghost use Rattle.format.specs.Byte.{add};
 ghost use Rattle.format.specs.Pixel.{each};
@@ -9,6 +9,7 @@ ghost use Rattle.predictor.specs.Row.{around, segment_gained, left_nearer};
 
 use crate::segment::Segment;
 use format::Pixel;
+use pixel::choice::pick;
 use pixel::pixel::{add_pixels, pick_pixel, pixel_at, pixel_distance, put_pixel};
 
 // A pixel that is rebuilt, and whether the next one takes its left neighbor.
@@ -16,13 +17,6 @@ use pixel::pixel::{add_pixels, pick_pixel, pixel_at, pixel_distance, put_pixel};
 struct Turn {
     pixel: Pixel,
     near: bool,
-}
-
-// Where `choose` has this choice itself, it becomes a branch, and the loop takes longer.
-fn pick_bool(near: bool, a: bool, b: bool) -> bool
-    ensures { result ≡ (if near then a else b) }
-{
-    if near { a } else { b }
 }
 
 // `next` is the top neighbor of the next pixel, whose top-left one is t.
@@ -37,7 +31,7 @@ fn choose(residual: Pixel, l: Pixel, t: Pixel, next: Pixel, near: bool) -> Turn
     let y_near = d < pixel_distance(y, t);
     Turn {
         pixel: pick_pixel(near, x, y),
-        near: pick_bool(near, x_near, y_near),
+        near: pick(near, x_near, y_near),
     }
 }
 
@@ -49,7 +43,8 @@ fn left_nearer(rows: &[u8], w: usize, i: usize) -> bool
     pixel_distance(pixel_at(rows, i - w), tl) < pixel_distance(pixel_at(rows, i - 1), tl)
 }
 
-// A loop of its own, since it carries the choice beside the left neighbor.
+// A loop of its own, since it carries the choice beside the left neighbor. `replace_left` over whatever is carried is
+// no plainer: its contract would quantify over what that says of the buffer, for this caller alone.
 pub fn add_selected(rows: &mut [u8], segment: Segment)
     requires { length rows.old ≡ 8 * segment.width }
     ensures { rows.new ≡ segment_gained 11 segment.width segment.from segment.to rows.old }

@@ -11,7 +11,7 @@ use Rattle.format.specs.Refusals.{input_refusal}
 use Rattle.format.specs.Stages.{backward, rebuilt}
 use Rattle.format.specs.Calls.{rebuild_image}
 use Rattle.format.proofs.Picture.{written_same}
-use Rattle.format.proofs.Written.{pixels_written, written_over, written_self}
+use Rattle.format.proofs.Written.{written_read, written_over, written_self}
 use Rattle.format.proofs.Stages.{KnownKinds, width_record, width_at_fewer, rebuilt_same}
 use Rattle.format.proofs.Calls.{rebuild_accepts, rebuild_image_accepted}
 use Rattle.format.proofs.Valid.{valid_sized, valid_known}
@@ -53,7 +53,7 @@ module _ (w h : ℕ) (cs ds : List ℕ) where
         let rest = rebuilt (step_at cs w) h ds j in
         let e : ys ≡ written n g xs = q ∙ cc (step, tall, on, wide) in
         let known : KnownKinds cs w j = λ i u. valid_known w h cs ds none i (let c = read.of.count in omega arith) in
-        let same : (i : ℕ) → i < n → pixels ys i ≡ g i = λ p l. ap (λ (zs : List ℕ). pixels zs p) e ∙ pixels_written n g xs p l in
+        let same = written_read n g xs ys e in
         rw m
         (written_same (h * w) (rest (pixels ys)) (rest g) ys (rebuilt_same cs w h ds (valid_sized w h cs ds none).wide j known (pixels ys) g same)
         ∙ ap (written (h * w) (rest g)) e

@@ -1,29 +1,21 @@
 -- One record undone row by row. r is the record, with its data.
-use Rattle.std.specs.Prelude.{Option, Some, None, List, ◌≡◌, ℕ, ◌-◌, ◌*◌}
+use Rattle.std.specs.Prelude.{List, ℕ, ◌-◌, ◌*◌}
 use Rattle.format.specs.declared.Pixel.{Pixel}
 use Rattle.format.specs.Picture.{Picture, pixels, written}
 use Rattle.format.specs.Sizes.{Holds}
 use Rattle.format.specs.Predictor.{gained}
 use Rattle.format.specs.Color.{inverse_color}
 use Rattle.format.specs.SubtractGreen.{add_green}
-use Rattle.format.specs.ColorTable.{per_pixel, entry, unpacked}
+use Rattle.format.specs.ColorTable.{unpacked}
 use Rattle.format.specs.Chain.{by_kind}
 use Rattle.format.specs.Stages.{part_of, backward}
 use Rattle.pixel.specs.Cells.{Rule, pixel_cells, run, given}
-use Rattle.color_table.specs.Table.{ColumnsOf}
 use Rattle.color.specs.Row.{pointwise, everywhere, in_picture}
 use Rattle.chain.specs.declared.record.Record.{Record}
 
 -- room for its picture in a buffer
 abbrev pub HasRoom : Record → List ℕ → Type 0
 HasRoom r xs = Holds r.step.width r.height xs
-
--- c are the columns of a table's entries; another record has none
-pub record ColumnsFor (r : Record) (c : Option (List ℕ)) : Type 0 where
-  pub some : (xs : List ℕ) → c ≡ Some xs → r.step.kind ≡ 3
-  pub made : (xs : List ℕ) → c ≡ Some xs
-      → ColumnsOf (per_pixel r.step.size) (entry r.step.size (part_of r.step r.«data».now)) xs
-  pub none : c ≡ None → r.step.kind ≡ 3 → ⊥
 
 -- how a row's pixels are rebuilt in order, where f is the buffer before the row: a table's row is given by its packed
 -- pixels there

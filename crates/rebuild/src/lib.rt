@@ -13,7 +13,8 @@ use chain::read_chain;
 use chain::record::Record;
 use format::{Refusal, TransformType};
 
-// The inverse of a record's transform.
+// The inverse of a record's transform. Two loops, since a range and its reverse are of two types. That the image has
+// room is asked here and of each row: a struct around the lent image would have to say what of it stays.
 #[tactic(auto, using(crate::proofs::Rows::none, crate::proofs::Rows::down_turn))]
 fn undo(record: &Record, image: &mut [u8])
     requires { HasRoom «record».now image.old }

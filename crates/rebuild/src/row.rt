@@ -1,32 +1,45 @@
 // One row of one record, in the one buffer.
 ghost use Rattle.std.specs.Prelude.{◌≡◌, ◌<◌};
-ghost use Rattle.rebuild.specs.Rows.{ColumnsFor, HasRoom, row_rebuilt};
+ghost use Rattle.rebuild.specs.Rows.{HasRoom, row_rebuilt};
+ghost use Rattle.rebuild.specs.Inverse.{Inverts};
 
 use chain::record::Record;
 use color_table::table::columns_of_table;
 use color_table::unpack::unpack_row_at;
 use format::TransformType;
+use pixel::block::Blocks;
 use pixel::stride::{Expanded, packed_width};
 
-// A record with what a table's rows are looked up in, which is made once for all of them.
+// What a kind's rows are rebuilt by: blocks, or the columns of a table's indices, which are made once for all rows.
+#[derive(Drop)]
+pub enum Inverse<'a> {
+    Predictor(Blocks<'a>),
+    Color(Blocks<'a>),
+    SubtractGreen,
+    ColorTable([u8; 8192]),
+}
+
+// A record with its inverse.
 #[derive(Drop)]
 pub struct Undoing<'a> {
     pub record: Record<'a>,
-    pub columns: Option<[u8; 8192]>,
-    pub ghost made: { ColumnsFor «record» columns },
+    pub inverse: Inverse<'a>,
+    pub ghost inverts: { Inverts «record» inverse },
 }
 
 impl<'a> Undoing<'a> {
     pub fn new(record: &Record<'a>) -> Self
         ensures { result.«record» ≡ «record».now }
     {
-        let columns = match record.transform_type() {
-            TransformType::ColorTable => Some(columns_of_table(&record.entries())),
-            _ => None,
+        let inverse = match record.transform_type() {
+            TransformType::Predictor => Inverse::Predictor(record.blocks()),
+            TransformType::Color => Inverse::Color(record.blocks()),
+            TransformType::SubtractGreen => Inverse::SubtractGreen,
+            TransformType::ColorTable => Inverse::ColorTable(columns_of_table(&record.entries())),
         };
         Undoing {
             record: *record,
-            columns,
+            inverse,
         }
     }
 
@@ -37,23 +50,18 @@ impl<'a> Undoing<'a> {
         requires { HasRoom self.now.«record» image.old × (y < self.now.«record».height) }
         ensures { image.new ≡ row_rebuilt self.now.«record» y image.old }
     {
-        let record = &self.record;
-        let step = record.step;
-        if let Some(columns) = &self.columns {
-            let expanded = Expanded(step.width);
-            let packed = packed_width(expanded, step.size);
-            unpack_row_at(image, y, packed, expanded, step.size, columns);
-            return;
-        }
-        match record.transform_type() {
-            TransformType::Predictor => {
-                predictor::inverse::rebuild_row_at(image, &record.blocks(), y)
-            },
-            TransformType::Color => color::color::rebuild_row_at(image, &record.blocks(), y),
-            TransformType::SubtractGreen => {
+        let step = self.record.step;
+        match &self.inverse {
+            Inverse::Predictor(blocks) => predictor::inverse::rebuild_row_at(image, blocks, y),
+            Inverse::Color(blocks) => color::color::rebuild_row_at(image, blocks, y),
+            Inverse::SubtractGreen => {
                 color::subtract_green::rebuild_row_at(image, step.width, y)
             },
-            TransformType::ColorTable => unreachable!(),
+            Inverse::ColorTable(columns) => {
+                let expanded = Expanded(step.width);
+                let packed = packed_width(expanded, step.size);
+                unpack_row_at(image, y, packed, expanded, step.size, columns)
+            },
         }
     }
 }

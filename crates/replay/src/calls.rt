@@ -1,35 +1,52 @@
-// A call of `letchwater` on a chain: the number, and every byte of the buffer that it writes.
+// Calls of `letchwater` beside the oracle's answers.
+use crate::case::u32_at;
 use crate::comparison::Compared;
-use crate::stored::Stored;
+use crate::failure::Failure;
 use format::Refusal;
 use letchwater::number;
+use std::io::Read;
 
-fn compared(outcome: Result<(), Refusal>, buffer: &[u8], answer: u32, output: &[u8]) -> Compared {
-    let refused = outcome.is_err();
-    let same = *buffer == *output;
-    Compared {
-        same: number(outcome) == answer && same,
-        refused,
+// What a call answered, and whether it refused: of a retouch the number alone does not say it by being 0.
+#[derive(Clone, Copy)]
+pub struct Answer {
+    pub number: u32,
+    pub refused: bool,
+}
+
+impl From<Result<(), Refusal>> for Answer {
+    fn from(outcome: Result<(), Refusal>) -> Answer {
+        Answer {
+            number: number(outcome),
+            refused: outcome.is_err(),
+        }
     }
 }
 
-pub fn replay_rebuild(
-    stored: Stored<'_>,
-    image: &mut [u8],
-    answer: u32,
-    output: &[u8],
-) -> Compared {
-    let outcome = stored.rebuild(image);
-    compared(outcome, image, answer, output)
+impl Answer {
+    pub fn compare(self, given: u32) -> Compared {
+        Compared {
+            same: self.number == given,
+            refused: self.refused,
+        }
+    }
 }
 
-pub fn replay_store(
-    stored: Stored<'_>,
-    picture: &[u8],
-    strip: &mut [u8],
-    answer: u32,
-    output: &[u8],
-) -> Compared {
-    let outcome = stored.store(picture, strip);
-    compared(outcome, strip, answer, output)
+// Calls in turn, each of which follows in the list in 16 bytes: what `call` takes, then the oracle's answer.
+pub fn replay_calls<R: Read, F: FnMut(&mut R, &[u8; 16]) -> Result<Answer, Failure>>(
+    list: &mut R,
+    calls: u8,
+    mut call: F,
+) -> Result<Compared, Failure>
+    requires { F.IsAlwaysCallable call }
+{
+    let mut so_far = Compared {
+        same: true,
+        refused: false,
+    };
+    for _ in 0..calls {
+        let mut bytes = [0u8; 16];
+        list.read_exact(&mut bytes)?;
+        so_far = so_far.and(call(list, &bytes)?.compare(u32_at(&bytes, 12)));
+    }
+    Ok(so_far)
 }

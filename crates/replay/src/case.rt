@@ -2,39 +2,59 @@
 ghost use Rattle.std.specs.Prelude.{◌+◌, ◌≤◌};
 
 use crate::failure::Failure;
-
-pub const KINDS: usize = 9;
+use std::fmt;
 
 // Five transforms by themselves and four calls.
-#[derive(Clone, Copy, PartialEq, Eq)]
+#[derive(Clone, Copy)]
 pub enum Kind {
-    Predictor = 0,
-    Color = 1,
-    SubtractGreen = 2,
-    ColorTable = 3,
-    ColorMap = 4,
-    Rebuild = 5,
-    Store = 6,
-    Retouches = 7,
-    Reports = 8,
+    Predictor,
+    Color,
+    SubtractGreen,
+    ColorTable,
+    ColorMap,
+    Rebuild,
+    Store,
+    Retouches,
+    Reports,
 }
+
+// By their numbers in the list.
+pub const KINDS: [Kind; 9] = [
+    Kind::Predictor,
+    Kind::Color,
+    Kind::SubtractGreen,
+    Kind::ColorTable,
+    Kind::ColorMap,
+    Kind::Rebuild,
+    Kind::Store,
+    Kind::Retouches,
+    Kind::Reports,
+];
 
 impl TryFrom<u8> for Kind {
     type Error = Failure;
 
     fn try_from(number: u8) -> Result<Kind, Failure> {
-        match number {
-            0 => Ok(Kind::Predictor),
-            1 => Ok(Kind::Color),
-            2 => Ok(Kind::SubtractGreen),
-            3 => Ok(Kind::ColorTable),
-            4 => Ok(Kind::ColorMap),
-            5 => Ok(Kind::Rebuild),
-            6 => Ok(Kind::Store),
-            7 => Ok(Kind::Retouches),
-            8 => Ok(Kind::Reports),
-            _ => Err(Failure::Malformed),
-        }
+        KINDS
+            .get(number as usize)
+            .copied()
+            .ok_or(Failure::Malformed)
+    }
+}
+
+impl fmt::Display for Kind {
+    fn fmt<W: fmt::Write>(&self, f: &mut fmt::Formatter<W>) -> fmt::Result {
+        f.write_str(match self {
+            Kind::Predictor => "predictor",
+            Kind::Color => "color",
+            Kind::SubtractGreen => "subtract green",
+            Kind::ColorTable => "color table",
+            Kind::ColorMap => "color map",
+            Kind::Rebuild => "rebuild by a chain",
+            Kind::Store => "store by a chain",
+            Kind::Retouches => "lists of retouches",
+            Kind::Reports => "lists of reports",
+        })
     }
 }
 
@@ -84,6 +104,8 @@ pub struct Reports {
     pub counters_len: usize,
 }
 
+// These two are the replay's own, since no code of the library that it tests reads the list; two, since no trait has
+// `from_le_bytes`.
 fn u16_at(header: &[u8; 16], at: usize) -> u16
     requires { at + 2 ≤ 16 }
 {

@@ -7,12 +7,15 @@ pub struct Compared {
     pub refused: bool,
 }
 
-pub const NO_CALLS: Compared = Compared {
-    same: true,
-    refused: false,
-};
-
 impl Compared {
+    // Of what a call left, and what the oracle's did: every byte.
+    pub fn bytes(left: &[u8], given: &[u8]) -> Compared {
+        Compared {
+            same: *left == *given,
+            refused: false,
+        }
+    }
+
     // Of calls in turn.
     pub fn and(self, next: Compared) -> Compared {
         Compared {

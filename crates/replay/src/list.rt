@@ -1,48 +1,83 @@
 // The list, case by case: a header, then its parts, each of at most 16384 bytes.
-use crate::calls::{replay_rebuild, replay_store};
+use crate::calls::{Answer, replay_calls};
 use crate::case::{Call, Kind, OnChain, Reports, Retouches, Single};
 use crate::comparison::{Compared, Comparison};
 use crate::failure::Failure;
-use crate::parts::{MOST, compare_part, part};
-use crate::reports::replay_reports;
-use crate::retouches::replay_retouches;
+use crate::parts::{MOST, compare_part, front, part};
+use crate::reports::report;
+use crate::retouches::Retouched;
 use crate::sizes::picture_len;
 use crate::stored::Stored;
-use crate::transforms::{replay_color_map, replay_color_table, replay_pixels};
+use crate::transforms::Transform;
 use std::io::{BufRead, Read};
 
-// A transform by itself, and two buffers for the work. What stands there beyond the input must not matter, so it is not
-// zero.
-fn replay_single(list: &mut impl Read, kind: Kind, c: Single) -> Result<Comparison, Failure> {
-    let len = picture_len(c.width, c.height).ok_or(Failure::Malformed)?;
-    let mut data = [0u8; MOST];
-    let mut input = [0u8; MOST];
-    let mut output = [0u8; MOST];
-    let data = part(list, &mut data, c.data_len)?;
-    let input = part(list, &mut input, c.input_len)?;
-    let output = part(list, &mut output, len)?;
-    let mut image = [165u8; MOST];
-    let mut strip = [165u8; MOST];
-    let image = image.get_mut(..len).ok_or(Failure::Malformed)?;
-    let strip = strip.get_mut(..len).ok_or(Failure::Malformed)?;
-    let stored = Stored {
-        width: c.width,
-        height: c.height,
-        chain: &c.record,
-        data,
-    };
-    match kind {
-        Kind::ColorTable => replay_color_table(
+// Data, input and output of a transform by itself, and two buffers for the work.
+#[derive(Clone, Copy)]
+struct Work {
+    data: [u8; MOST],
+    input: [u8; MOST],
+    output: [u8; MOST],
+    image: [u8; MOST],
+    strip: [u8; MOST],
+}
+
+impl Work {
+    // What stands in the buffers for the work must not matter, so it is not zero.
+    fn new() -> Work {
+        Work {
+            data: [0; MOST],
+            input: [0; MOST],
+            output: [0; MOST],
+            image: [165; MOST],
+            strip: [165; MOST],
+        }
+    }
+
+    // Data, input and output as they follow in the list.
+    fn read<'a>(
+        &'a mut self,
+        list: &mut impl Read,
+        c: &'a Single,
+    ) -> Result<Transform<'a, 'a>, Failure> {
+        let len = picture_len(c.width, c.height).ok_or(Failure::Malformed)?;
+        let data = part(list, &mut self.data, c.data_len)?;
+        let input = part(list, &mut self.input, c.input_len)?;
+        let output = part(list, &mut self.output, len)?;
+        let image = front(&mut self.image, len)?;
+        let strip = front(&mut self.strip, len)?;
+        let stored = Stored {
+            width: c.width,
+            height: c.height,
+            chain: &c.record,
+            data,
+        };
+        Ok(Transform {
             stored,
-            c.size as usize,
             input,
             output,
             image,
             strip,
-        ),
-        Kind::ColorMap => replay_color_map(input, output, image),
-        _ => replay_pixels(stored, input, output, image, strip),
+        })
     }
+}
+
+// A function for each way to replay a transform: the check does not cover a closure that takes what `Work` lends.
+fn replay_pixels(list: &mut impl Read, c: Single) -> Result<Comparison, Failure> {
+    let mut work = Work::new();
+    let transform = work.read(list, &c)?;
+    transform.replay_pixels()
+}
+
+fn replay_color_table(list: &mut impl Read, c: Single) -> Result<Comparison, Failure> {
+    let mut work = Work::new();
+    let transform = work.read(list, &c)?;
+    transform.replay_color_table(c.size as usize)
+}
+
+fn replay_color_map(list: &mut impl Read, c: Single) -> Result<Comparison, Failure> {
+    let mut work = Work::new();
+    let transform = work.read(list, &c)?;
+    transform.replay_color_map()
 }
 
 // Chain, data, input and output of a case on a chain.
@@ -84,35 +119,49 @@ impl Buffers {
     }
 }
 
-// A call on a chain. Rebuilding goes in the input's buffer, storing into a strip that is not zero.
-fn replay_call(list: &mut impl Read, kind: Kind, c: Call) -> Result<Compared, Failure> {
+// Rebuilding goes in the input's buffer.
+fn replay_rebuild(list: &mut impl Read, c: Call) -> Result<Compared, Failure> {
     let mut buffers = Buffers::new();
-    let (stored, input, output) = buffers.read(list, c.parts)?;
-    if kind == Kind::Rebuild {
-        return Ok(replay_rebuild(stored, input, c.answer, output));
-    }
+    let (stored, image, output) = buffers.read(list, c.parts)?;
+    let answer = Answer::from(stored.rebuild(image)).compare(c.answer);
+    Ok(answer.and(Compared::bytes(image, output)))
+}
+
+// Storing goes into a strip that is not zero.
+fn replay_store(list: &mut impl Read, c: Call) -> Result<Compared, Failure> {
+    let mut buffers = Buffers::new();
+    let (stored, picture, output) = buffers.read(list, c.parts)?;
     let mut strip = [165u8; MOST];
-    let strip = strip
-        .get_mut(..c.parts.output_len)
-        .ok_or(Failure::Malformed)?;
-    Ok(replay_store(stored, input, strip, c.answer, output))
+    let strip = front(&mut strip, output.len())?;
+    let answer = Answer::from(stored.store(picture, strip)).compare(c.answer);
+    Ok(answer.and(Compared::bytes(strip, output)))
 }
 
 // A list of retouches: its answers, and what it leaves of picture and strip.
-fn replay_retouch_list(list: &mut impl Read, c: Retouches) -> Result<Compared, Failure> {
+fn replay_retouches(list: &mut impl Read, c: Retouches) -> Result<Compared, Failure> {
     let mut buffers = Buffers::new();
     let (stored, picture, strip) = buffers.read(list, c.parts)?;
-    let answers = replay_retouches(list, c.calls, stored, picture, strip)?;
-    let with_picture = answers.and(compare_part(list, picture)?);
-    Ok(with_picture.and(compare_part(list, strip)?))
+    let mut retouched = Retouched {
+        stored,
+        picture,
+        strip,
+    };
+    let answers = replay_calls(list, c.calls, |_, call| Ok(retouched.retouch(call)))?;
+    let with_picture = answers.and(compare_part(list, retouched.picture)?);
+    Ok(with_picture.and(compare_part(list, retouched.strip)?))
 }
 
-fn replay_report_list(list: &mut impl Read, c: Reports) -> Result<Compared, Failure> {
+// A list of reports: its answers, and the counters that it leaves.
+fn replay_reports(list: &mut impl Read, c: Reports) -> Result<Compared, Failure> {
     let mut colors = [0u8; MOST];
     let mut counters = [0u8; MOST];
     let colors = part(list, &mut colors, c.colors_len)?;
     let counters = part(list, &mut counters, c.counters_len)?;
-    let answers = replay_reports(list, c.calls, colors, counters)?;
+    let answers = replay_calls(
+        list,
+        c.calls,
+        |list, call| report(list, call, colors, counters),
+    )?;
     Ok(answers.and(compare_part(list, counters)?))
 }
 
@@ -125,10 +174,15 @@ pub fn replay_next(list: &mut impl BufRead) -> Result<Option<(Kind, Comparison)>
     list.read_exact(&mut header)?;
     let kind = Kind::try_from(header[0])?;
     let comparison = match kind {
-        Kind::Rebuild | Kind::Store => replay_call(list, kind, Call::from(&header))?.into(),
-        Kind::Retouches => replay_retouch_list(list, Retouches::from(&header))?.into(),
-        Kind::Reports => replay_report_list(list, Reports::from(&header))?.into(),
-        _ => replay_single(list, kind, Single::from(&header))?,
+        Kind::Predictor | Kind::Color | Kind::SubtractGreen => {
+            replay_pixels(list, Single::from(&header))?
+        }
+        Kind::ColorTable => replay_color_table(list, Single::from(&header))?,
+        Kind::ColorMap => replay_color_map(list, Single::from(&header))?,
+        Kind::Rebuild => replay_rebuild(list, Call::from(&header))?.into(),
+        Kind::Store => replay_store(list, Call::from(&header))?.into(),
+        Kind::Retouches => replay_retouches(list, Retouches::from(&header))?.into(),
+        Kind::Reports => replay_reports(list, Reports::from(&header))?.into(),
     };
     Ok(Some((kind, comparison)))
 }

@@ -21,11 +21,11 @@ use failure::Failure;
 use list::replay_next;
 use std::io;
 use std::io::BufRead;
-use tally::{Tally, print};
+use tally::Tally;
 
 // A proved loop has to end, and nothing says that an input does: the turns are counted, up to a number that no run
 // reaches.
-fn replay_all(list: &mut impl BufRead, tallies: &mut [Tally; KINDS]) -> Result<(), Failure> {
+fn replay_all(list: &mut impl BufRead, tallies: &mut [Tally; KINDS.len()]) -> Result<(), Failure> {
     for _ in 0..u64::MAX {
         let Some((kind, found)) = replay_next(list)? else {
             break;
@@ -36,12 +36,15 @@ fn replay_all(list: &mut impl BufRead, tallies: &mut [Tally; KINDS]) -> Result<(
 }
 
 fn main(rt: HostRuntime) -> io::Result<()> {
-    let mut tallies = [Tally::default(); KINDS];
+    let mut tallies = KINDS.map(Tally::new);
     let mut list = rt.reader();
     match replay_all(&mut list, &mut tallies) {
         Ok(()) => {}
         Err(Failure::Malformed) => println!(rt; "malformed case")?,
         Err(Failure::Io(error)) => return Err(error),
     }
-    print(&rt, &tallies)
+    for tally in tallies {
+        print!(rt; "{tally}")?;
+    }
+    Ok(())
 }

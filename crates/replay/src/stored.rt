@@ -1,4 +1,5 @@
-// A picture's size, and the chain and data that it is stored by.
+// A picture's size, and the chain and data that it is stored by. `worked_pictures` has such a struct too: a program is
+// used by no other, and `letchwater` below both has the calls alone, as the papers list them.
 use format::Refusal;
 use letchwater::{letchwater_rebuild, letchwater_store};
 

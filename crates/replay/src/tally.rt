@@ -1,10 +1,11 @@
-// Counts of each kind of case, and the lines that give them.
-use crate::case::KINDS;
+// Counts of the cases of a kind, and the lines that give them.
+use crate::case::Kind;
 use crate::comparison::Comparison;
-use std::io;
+use std::fmt;
 
-#[derive(Clone, Copy, Default)]
+#[derive(Clone, Copy)]
 pub struct Tally {
+    kind: Kind,
     cases: u64,
     differences: u64,
     lost: u64,
@@ -12,6 +13,16 @@ pub struct Tally {
 }
 
 impl Tally {
+    pub fn new(kind: Kind) -> Tally {
+        Tally {
+            kind,
+            cases: 0,
+            differences: 0,
+            lost: 0,
+            refusals: 0,
+        }
+    }
+
     // One case more. No run reaches the number at which a count wraps.
     pub fn add(&mut self, found: Comparison) {
         self.cases = self.cases.wrapping_add(1);
@@ -20,64 +31,48 @@ impl Tally {
         self.refusals = self.refusals.wrapping_add(u64::from(found.calls.refused));
     }
 
-    fn print_transform(&self, rt: &impl Print, name: &str) -> io::Result<()> {
-        println!(rt;
-            "{name}: {} cases, {} differences, {} not given back",
-            self.cases, self.differences, self.lost
+    // Of a transform, which is undone.
+    fn write_transform<W: fmt::Write>(&self, f: &mut fmt::Formatter<W>) -> fmt::Result {
+        writeln!(
+            f,
+            "{}: {} cases, {} differences, {} not given back",
+            self.kind, self.cases, self.differences, self.lost
         )
     }
 
-    // Of a call, which is not undone: what its cases have in common is `accepted` and `refused`.
-    fn print_call(
-        &self,
-        rt: &impl Print,
-        name: &str,
-        accepted: &str,
-        refused: &str,
-    ) -> io::Result<()> {
-        println!(rt;
-            "{name}: {} cases, {} differences",
-            self.cases, self.differences
-        )?;
-        self.print_refused(rt, name, accepted, refused)
-    }
-
-    fn print_refused(
-        &self,
-        rt: &impl Print,
-        name: &str,
-        accepted: &str,
-        refused: &str,
-    ) -> io::Result<()> {
-        println!(rt;
-            "{name}: {} {accepted}, {} {refused}",
-            self.cases.wrapping_sub(self.refusals),
-            self.refusals
+    // Of a call, which is not undone.
+    fn write_call<W: fmt::Write>(&self, f: &mut fmt::Formatter<W>) -> fmt::Result {
+        writeln!(
+            f,
+            "{}: {} cases, {} differences",
+            self.kind, self.cases, self.differences
         )
     }
 }
 
-pub fn print(rt: &impl Print, tallies: &[Tally; KINDS]) -> io::Result<()> {
-    let [
-        predictor,
-        color,
-        green,
-        table,
-        map,
-        rebuild,
-        store,
-        retouches,
-        reports,
-    ] = *tallies;
-    predictor.print_transform(rt, "predictor")?;
-    color.print_transform(rt, "color")?;
-    green.print_transform(rt, "subtract green")?;
-    table.print_transform(rt, "color table")?;
-    table.print_refused(rt, "color table stored", "accepted", "refused")?;
-    map.print_transform(rt, "color map")?;
-    rebuild.print_call(rt, "rebuild by a chain", "accepted", "refused")?;
-    store.print_call(rt, "store by a chain", "accepted", "refused")?;
-    let (throughout, one) = ("accepted throughout", "with a refusal");
-    retouches.print_call(rt, "lists of retouches", throughout, one)?;
-    reports.print_call(rt, "lists of reports", throughout, one)
+impl fmt::Display for Tally {
+    fn fmt<W: fmt::Write>(&self, f: &mut fmt::Formatter<W>) -> fmt::Result {
+        let kind = self.kind;
+        let accepted = self.cases.wrapping_sub(self.refusals);
+        let refused = self.refusals;
+        match kind {
+            Kind::Predictor | Kind::Color | Kind::SubtractGreen | Kind::ColorMap =>
+                self.write_transform(f),
+            Kind::ColorTable => {
+                self.write_transform(f)?;
+                writeln!(f, "{kind} stored: {accepted} accepted, {refused} refused")
+            }
+            Kind::Rebuild | Kind::Store => {
+                self.write_call(f)?;
+                writeln!(f, "{kind}: {accepted} accepted, {refused} refused")
+            }
+            Kind::Retouches | Kind::Reports => {
+                self.write_call(f)?;
+                writeln!(
+                    f,
+                    "{kind}: {accepted} accepted throughout, {refused} with a refusal"
+                )
+            }
+        }
+    }
 }

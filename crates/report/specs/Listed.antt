@@ -11,6 +11,6 @@ list_answer colors = number ColorList unless color_list colors
 
 -- a list that it does not refuse
 pub record ListOf (colors : List ℕ) (l : Lookup) : Type 0 where
-  pub entries : l.entries.now ≡ colors
-  pub size : l.size ≡ color_count colors
+  pub entries : l.entries.bytes.now ≡ colors
+  pub size : l.entries.size ≡ color_count colors
   pub list : color_list colors ≡ true

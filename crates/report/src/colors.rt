@@ -15,16 +15,16 @@ use pixel::word::Word;
 // The index of w, or the list's size.
 #[tactic(auto, using(crate::proofs::Own::placed))]
 pub fn place(list: &Lookup, w: Word) -> usize
-    ensures { result ≡ index_of list.now.size (pixels list.now.entries.now) w }
+    ensures { result ≡ index_of list.now.entries.size (pixels list.now.entries.bytes.now) w }
 {
-    list.find(w).unwrap_or(list.size)
+    list.find(w).unwrap_or(list.entries.size)
 }
 
 // Whether no color is listed twice: each is found at its own index.
 fn distinct(list: &Lookup) -> bool
-    ensures { result ≡ distinct list.now.size (pixels list.now.entries.now) }
+    ensures { result ≡ distinct list.now.entries.size (pixels list.now.entries.bytes.now) }
 {
-    (0..list.size).all(|k| place(list, Word::at(list.entries, k)) == k)
+    (0..list.entries.size).all(|k| place(list, Word::at(list.entries.bytes, k)) == k)
 }
 
 // Test 23: the list of colors, which may have the lengths of a color map.

@@ -1,6 +1,6 @@
 // How many pixels of a picture are found at each index of a list of colors, or at none. Groups of sixteen pixels of one
 // color are counted at once.
-ghost use Rattle.std.specs.Prelude.{◌≡◌, ◌+◌, ◌*◌, ◌<◌, ◌≤◌, length, set};
+ghost use Rattle.std.specs.Prelude.{◌≡◌, ◌+◌, ◌*◌, ◌/◌, ◌<◌, ◌≤◌, length, set};
 ghost use Rattle.report.specs.Counts.{at, most_pixels};
 
 use crate::colors::place;
@@ -29,56 +29,61 @@ impl Counts {
     }
 }
 
-// The first `count` pixels of a picture, to be counted by a list of colors.
+// A picture's pixels, to be counted by a list of colors.
 #[derive(Clone, Copy)]
 pub struct Counting<'a> {
     pub list: &'a Lookup<'a>,
     pub picture: &'a [u8],
-    pub count: usize,
-    pub ghost few: { count ≤ most_pixels },
-    pub ghost there: { 4 * count ≤ length picture.now },
+    pub ghost few: { length picture.now ≤ 4 * most_pixels },
 }
 
 impl<'a> Counting<'a> {
-    ghost use Rattle.report.specs.Counting.{CountedIn, Start};
+    ghost use Rattle.report.specs.Counting.{count_of, CountedIn, Start};
+
+    // How many they are.
+    fn count(&self) -> usize
+        ensures { result ≡ count_of self.now }
+    {
+        self.picture.len() / 4
+    }
 
     // Pixels `from` up to `to`, one by one.
     fn each(&self, counts: &mut Counts, from: usize, to: usize)
-        requires inside { (from ≤ to) × (to ≤ self.now.count) }
+        requires inside { (from ≤ to) × (to ≤ count_of self.now) }
         requires counted { CountedIn self.now from counts.old }
         ensures { CountedIn self.now to counts.new }
     {
-        for i in from..to {
-            counts.add(place(self.list, Word::at(self.picture, i)), 1);
+        for pixel in self.picture[4 * from..4 * to].as_chunks::<4>().0 {
+            counts.add(place(self.list, Word::from(*pixel)), 1);
         }
     }
 
     // The groups from pixel i on that are of its color, and the sixteen pixels after them, or those that are left;
     // returns the pixel after these.
     fn run(&self, counts: &mut Counts, i: usize) -> usize
-        requires start { Start self.now i × (i < self.now.count) }
+        requires start { Start self.now i × (i < count_of self.now) }
         requires counted { CountedIn self.now i counts.old }
         ensures { (i < result) × Start self.now result × CountedIn self.now result counts.new }
     {
         let w = Word::at(self.picture, i);
-        let j = pass(self.picture, i, self.count / 16 * 16, w, w);
+        let j = pass(self.picture, i, self.count() / 16 * 16, w, w);
         counts.add(place(self.list, w), j - i);
-        let end = self.count.min(j + 16);
+        let end = self.count().min(j + 16);
         self.each(counts, j, end);
         end
     }
 
     // The counts of all of them.
     pub fn counts(&self) -> Counts
-        ensures { CountedIn self.now self.now.count result }
+        ensures { CountedIn self.now (count_of self.now) result }
     {
         let mut counts = Counts {
             numbers: [0; 257],
-            size: self.list.size + 1,
+            size: self.list.entries.size + 1,
         };
         let mut i = 0;
         // A turn goes to the end of a run.
-        while i < self.count {
+        while i < self.count() {
             i = self.run(&mut counts, i);
         }
         counts

@@ -5,11 +5,11 @@ ghost use Rattle.format.specs.Report.{report_answer, report_counters};
 
 use crate::colors::list_of;
 use crate::count::Counting;
-use chain::in_range;
+use chain::check_size;
 use format::Refusal;
 
 // Tests 1, 23, 8 and 24, then the counters.
-#[tactic(auto, unfolding(format::specs::Report::report_answer, format::specs::Report::report_counters, format::specs::Refusals::size_refusal))]
+#[tactic(auto, unfolding(format::specs::Report::report_answer, format::specs::Report::report_counters))]
 pub fn report(
     width: usize,
     height: usize,
@@ -22,18 +22,15 @@ pub fn report(
     ensures counters_after { counters.new ≡ report_counters width height picture.now colors.now
         counters.old }
 {
-    if !(in_range(width) && in_range(height)) {
-        return Err(Refusal::Size);
-    }
+    check_size(width, height)?;
     let list = list_of(colors)?;
     let count = height * width;
-    if counters.len() < 8 * (list.size + 1) || picture.len() < 4 * count {
+    if counters.len() < 8 * (list.entries.size + 1) || picture.len() < 4 * count {
         return Err(Refusal::ShortBuffer);
     }
     let counting = Counting {
         list: &list,
-        picture,
-        count,
+        picture: &picture[..4 * count],
     };
     counting.counts().add_to(counters)
 }

@@ -1,8 +1,8 @@
 -- What the records made afresh and the mask decide, and what is left when they are written.
 use Rattle.std.specs.Prelude.{Some, None}
-use mathlib.Core.Bool.{Bool, true, false, ◌||◌}
+use mathlib.Core.Bool.{Bool, true, false, or-true}
 use mathlib.Core.List.{List, [], ◌∷◌}
-use mathlib.Core.Path.{◌≡◌, refl, sym, ◌∙◌}
+use mathlib.Core.Path.{◌≡◌, refl, sym, ap, ◌∙◌}
 use Prim.Native.Nat.{ℕ, zero, suc, ◌<◌}
 use native.Mathlib.Nat.{not-suc-le-zero, le_of_suc-le-suc}
 use native.Mathlib.Omega.{arith}
@@ -28,6 +28,7 @@ use Rattle.item.specs.Source.{shown}
 use Rattle.retouch.specs.declared.records.Records.{Records}
 use Rattle.retouch.specs.declared.changes.Changes.{Changes}
 use Rattle.retouch.specs.declared.decide.Decision.{Decision}
+use Rattle.retouch.specs.declared.remake.Remade.{Remade}
 use Rattle.retouch.specs.Spots.{records_of, touched_by}
 use Rattle.retouch.specs.Remade.{MadeTo, strip_of, over, cannot, RemadeBy, MasksMade, WritesMade}
 use Rattle.retouch.specs.Decided.{records_by, answer_by, picture_left, strip_left, Decided}
@@ -56,11 +57,7 @@ number_of d = answer (Count.ones d.changes.mask) d.changes.mask
 among_listed : (xs : List ℕ) (k : ℕ) → k < length xs → among (get_or xs k 0) xs ≡ true
 among_listed [] k u = absurd (not-suc-le-zero u)
 among_listed (x ∷ xs) zero u = rw (eq-eqb x x refl) refl
-among_listed (x ∷ xs) (suc k) u = rw (among_listed xs k (le_of_suc-le-suc u)) (or_true (eqb (get_or xs k 0) x))
-  where
-    or_true : (b : Bool) → (b || true) ≡ true
-    or_true true = refl
-    or_true false = refl
+among_listed (x ∷ xs) (suc k) u = rw (among_listed xs k (le_of_suc-le-suc u)) (or-true (eqb (get_or xs k 0) x))
 
 module _ (v : ValidChain) (picture strip : List ℕ) (point : Point) where
   abbrev touched : List ℕ
@@ -96,18 +93,19 @@ module _ (v : ValidChain) (picture strip : List ℕ) (point : Point) where
   unfolding point_answer
   answer_made q = rw (q, ones_mask_of changed) refl
 
-  module _ (rs : List ℕ) (is : rs ≡ touched) where
-    pub decided_refused : RemadeBy v (shown picture point) rs None → number NoRecord ≡ answer_by v picture strip point
+  module _ (s : Records) (is : records_of s ≡ touched) where
+    pub decided_refused : RemadeBy v (shown picture point) (records_of s) None → number NoRecord ≡ answer_by v picture strip point
     decided_refused by = sym (answer_lost (sym (rw is at by.missing)))
 
     -- what is decided by a mask
-    pub decided_made : (s : Records) (vs : List Pixel) → rs ≡ records_of s → RemadeBy v (shown picture point) rs (Some vs) → (changes : Changes) → MasksMade (records_in v.chain) rs vs (pixels strip) changes.mask
-        → Decided v picture strip point (record { changes = changes; spots = s; made = vs })
+    pub decided_made : (m : Remade) → m.spots ≡ s → RemadeBy v (shown picture point) (records_of s) (Some m.made) → (changes : Changes) → MasksMade (records_in v.chain) (records_of m.spots) m.made (pixels strip) changes.mask
+        → Decided v picture strip point (record { changes = changes; remade = m })
     unfolding changes
-    decided_made s vs q by mask mark =
+    decided_made m same by mask mark =
+        let t : records_of m.spots ≡ touched = ap records_of same ∙ is in
         let b = rw is at by.records in
-        let m : mask.mask ≡ mask_of changed = (rw is at mark) new (made_new vs b) in
-        record { answer = sym (answer_made (sym (rw is at by.missing)) ∙ rw m refl); records = sym q ∙ is; made = b }
+        let q : mask.mask ≡ mask_of changed = (rw t at mark) new (made_new m.made b) in
+        record { answer = sym (answer_made (sym (rw is at by.missing)) ∙ rw q refl); records = t; made = b }
 
   -- accepted: the point and the records are written
   module _ (d : Decision) (is : Decided v picture strip point d) where
@@ -117,5 +115,5 @@ module _ (v : ValidChain) (picture strip : List ℕ) (point : Point) where
     pub left_picture : (ps : List ℕ) → HoldsPicture v.chain picture → point.index < pixels_in v.chain → ps ≡ put_pixel picture point.index point.color → ps ≡ picture_left v picture point (number_of d)
     left_picture ps room inside e = e ∙ rw taken (put_painted (pixels_in v.chain) picture point.index point.color room inside)
 
-    pub left_strip : (ss : List ℕ) → WritesMade (records_in v.chain) (records_of d.spots) d.made strip ss → ss ≡ strip_left v picture strip point (number_of d)
+    pub left_strip : (ss : List ℕ) → WritesMade (records_in v.chain) (records_of d.remade.spots) d.remade.made strip ss → ss ≡ strip_left v picture strip point (number_of d)
     left_strip ss wrote = (rw is.records at wrote) made is.made ∙ rw (taken, new_over) refl

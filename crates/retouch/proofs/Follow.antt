@@ -1,20 +1,25 @@
 -- Laws of a point's spots on their way through a chain.
 use mathlib.Core.Logic.{◌⊎◌, inl, inr}
-use mathlib.Core.List.{List, [], ◌∷◌}
+use mathlib.Core.List.{List, [], ◌∷◌, map}
 use mathlib.Core.Path.{◌≡◌, refl, sym, ap, ◌∙◌}
-use Prim.Native.Nat.{ℕ, zero, suc, ◌+◌, ◌<◌, ◌≤◌}
+use Prim.Native.Nat.{ℕ, zero, suc, ◌+◌, ◌/◌, ◌%◌, ◌<◌, ◌≤◌}
+use native.Mathlib.Nat.{div-le_self}
 use native.Mathlib.Numerals.{add-one}
 use native.Mathlib.Omega.{arith}
 use borrow.Author.Tests.{ne_eqb}
 use lib.ListN.{length, get_or, take, drop, length-append}
 use lib.Seq.{drop-cons, drop-length, length-take-le}
+use Rattle.std.proofs.lemmas.List.{take-map}
+use Rattle.std.proofs.lemmas.Nat.{div-add-mod'}
 use Rattle.format.specs.Indices.{union}
 use Rattle.format.specs.declared.Step.{Step}
 use Rattle.format.specs.declared.TransformType.{TransformType}
 use Rattle.format.specs.declared.TransformType.TheVariants.{Color, SubtractGreen}
 use Rattle.format.specs.Chain.{kind_of}
 use Rattle.format.specs.Retouch.{five_spots, packed_over, spots_of, spot_records}
+use Rattle.format.specs.ColorTable.{per_pixel}
 use Rattle.format.proofs.Locality.{spots_place}
+use Rattle.color_table.proofs.Rows.{rows_fewer}
 use Rattle.retouch.specs.Spots.{packs}
 
 -- five records as they stand in an array
@@ -31,19 +36,18 @@ five xs l =
 
 -- a table packs each
 
-abbrev moved : (ℕ → ℕ) → List ℕ → List ℕ
-moved g [] = []
-moved g (q ∷ qs) = g q ∷ moved g qs
+-- no packed pixel comes after an item that it holds
+pub packed_before : (w size q r : ℕ) → 1 ≤ w → r ≡ packed_over w size q → r ≤ q
+packed_before w size q r p e = omega (arith, e, rows_fewer w size (q / w) p, div-le_self (q % w) (per_pixel size), div-add-mod' q w)
 
-union_moved : (g : ℕ → ℕ) (n : ℕ) (xs : List ℕ) → union (λ q. g q ∷ []) (take n xs) ≡ take n (moved g xs)
-union_moved g zero xs = refl
-union_moved g (suc n) [] = refl
-union_moved g (suc n) (q ∷ xs) = cc (union_moved g n xs)
+union_map : (g : ℕ → ℕ) (xs : List ℕ) → union (λ q. g q ∷ []) xs ≡ map g xs
+union_map g [] = refl
+union_map g (q ∷ xs) = cc (union_map g xs)
 
 pub taken_packed : (w size n : ℕ) (xs ys : List ℕ) → length xs ≡ 5 → ys ≡ packs w size xs → take n ys ≡ union (λ q. packed_over w size q ∷ []) (take n xs)
 taken_packed w size n xs ys l e =
-    let p : moved (packed_over w size) xs ≡ ys = ap (moved (packed_over w size)) (five xs l) ∙ sym e in
-    rw (union_moved (packed_over w size) n xs, p)
+    let p : map (packed_over w size) xs ≡ ys = ap (map (packed_over w size)) (five xs l) ∙ sym e in
+    rw (union_map (packed_over w size) (take n xs), ← take-map (packed_over w size) n xs, p)
 
 -- what each kind of record makes of the spots
 

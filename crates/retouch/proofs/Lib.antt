@@ -4,3 +4,4 @@ pub mod Making
 pub mod Writing
 pub mod Deciding
 pub mod Answers
+pub mod Numbered

@@ -1,37 +1,26 @@
 -- Laws of the mask: its bits from the first spot to the last.
 use Rattle.std.specs.Int.{from_bool}
-use Rattle.std.specs.List.{list_any}
-use mathlib.Core.Bool.{Bool, true, false, not, ◌&&◌, ◌||◌, or-false}
+use mathlib.Core.Bool.{Bool, true, false, not, ◌&&◌, ◌||◌, or_assoc, or_comm, or-false}
 use mathlib.Core.List.{List, [], ◌∷◌, ◌++◌}
-use mathlib.Core.Path.{◌≡◌, refl, sym, ◌∙◌}
-use Prim.Native.Nat.{ℕ, ◌+◌, ◌*◌, ◌%◌, ◌^◌, ◌<◌, ◌≤◌}
+use mathlib.Core.Path.{◌≡◌, refl, sym, ap, ◌∙◌}
+use Prim.Native.Nat.{ℕ, ◌+◌, ◌*◌, ◌/◌, ◌%◌, ◌^◌, ◌<◌, ◌≤◌}
 use native.Mathlib.Nat.{pow-zero, pow-suc, mul-le-mul_right, mod-eq_of_lt}
 use native.Mathlib.Numerals.{add-one}
 use native.Mathlib.Omega.{arith}
 use lib.Pow.{pow_mono}
-use borrow.Author.Tests.{ltb-true, ne_eqb}
+use borrow.Author.Tests.{ltb-true}
 use lib.Dec.{eqb, ltb}
 use lib.ListN.{length, get_or, take}
 use lib.Seq.{take-suc, length-take-le}
-use native.Mathlib.Decide.{ℕ_discrete}
 use Rattle.format.specs.Choice.{bit}
 use Rattle.format.specs.Indices.{among}
 use Rattle.format.specs.declared.Pixel.{Pixel}
 use Rattle.format.specs.Pixel.{clear, equal}
-use Rattle.format.specs.Picture.{Picture}
+use Rattle.format.specs.Picture.{Picture, pixels}
+use Rattle.format.proofs.Marks.{marks_same}
 use Rattle.format.specs.Retouch.{differ, marks, mask_of}
-use Rattle.retouch.specs.Remade.{MadeTo, marked}
-
-eqb_swap : (a b : ℕ) → eqb a b ≡ eqb b a
-eqb_swap a b = go (ℕ_discrete a b)
-  where
-    go : Dec (a ≡ b) → eqb a b ≡ eqb b a
-    go (yes e) = rw e refl
-    go (no d) = rw (ne_eqb a b d, ne_eqb b a (λ e. d (sym e))) refl
-
-pub any_among : (r : ℕ) (xs : List ℕ) → list_any (λ y. eqb y r) xs ≡ among r xs
-any_among r [] = refl
-any_among r (x ∷ xs) = cc (eqb_swap x r, any_among r xs)
+use Rattle.color_table.proofs.Fronts.{pixels_front}
+use Rattle.retouch.specs.Remade.{MadeTo, marked, MasksMade}
 
 -- a test as a bit
 
@@ -39,7 +28,7 @@ from_bit : (t : Bool) → from_bool t ≡ bit t
 from_bit true = refl
 from_bit false = refl
 
-pub from_small : (t : Bool) → from_bool t ≤ 1
+from_small : (t : Bool) → from_bool t ≤ 1
 from_small true = omega arith
 from_small false = omega arith
 
@@ -53,13 +42,7 @@ module _ (t : ℕ → Bool) where
 
   among_after : (r : ℕ) (seen xs : List ℕ) → among r (after seen xs) ≡ (among r xs || among r seen)
   among_after r seen [] = refl
-  among_after r seen (x ∷ xs) = among_after r (x ∷ seen) xs ∙ or_between (among r xs) (eqb r x) (among r seen)
-    where
-      or_between : (a b c : Bool) → (a || (b || c)) ≡ ((b || a) || c)
-      or_between true true c = refl
-      or_between true false c = refl
-      or_between false true c = refl
-      or_between false false c = refl
+  among_after r seen (x ∷ xs) = among_after r (x ∷ seen) xs ∙ rw (or_comm (eqb r x) (among r xs)) (sym (or_assoc (among r xs) (eqb r x) (among r seen)))
 
   mask_last : (seen xs : List ℕ) (r : ℕ) → mask_of (marks t seen (xs ++ (r ∷ []))) ≡ mask_of (marks t seen xs) + 2 ^ length xs * bit (t r && not (among r (after seen xs)))
   mask_last seen [] r = rw pow-zero (omega arith)
@@ -101,3 +84,14 @@ pub bit_fits : (k b : ℕ) (m : Bool) → b ≡ from_bool m → k < 5 → b * 2 
 bit_fits k b m e l =
     let s : 2 ^ k ≤ 2 ^ 5 = pow_mono {j = 5} (omega arith) in
     rw e (mod-eq_of_lt (omega (arith, mul-le-mul_right {m = from_bool m} {n = 1} (2 ^ k) (from_small m))))
+
+-- the mask of a strip by its records alone: k bytes, which are lent
+pub mask_lent : (n k : ℕ) (rs : List ℕ) (vs : List Pixel) (strip : List ℕ) (mask : ℕ) → k ≡ 4 * n → 4 * n ≤ length strip
+    → MasksMade (length (take k strip) / 4) rs vs (pixels (take k strip)) mask → MasksMade n rs vs (pixels strip) mask
+mask_lent n k rs vs strip mask e fits m =
+    let c : length (take k strip) / 4 ≡ n = omega (arith, length-take-le k strip (omega arith)) in
+    λ g made. (rw c at m) g made ∙ ap mask_of (marks_same [] _ _ rs (λ r. go g r (ltb r n) refl))
+  where
+    go : (g : Picture) (r : ℕ) (b : Bool) → ltb r n ≡ b → differ n (pixels (take k strip)) g r ≡ differ n (pixels strip) g r
+    go g r true q = let l = ltb-true r n q in rw (pixels_front k strip r (omega arith)) refl
+    go g r false q = rw q refl

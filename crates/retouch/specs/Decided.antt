@@ -48,5 +48,5 @@ module _ (v : ValidChain) (picture : List ℕ) where
     -- what is decided before a byte is written, where it is no refusal
     pub record Decided (d : Decision) : Type 0 where
       pub answer : answer (ones d.changes.mask) d.changes.mask ≡ answer_by
-      pub records : records_of d.spots ≡ touched_by v point
-      pub made : RemadeAll v (shown picture point) (touched_by v point) d.made
+      pub records : records_of d.remade.spots ≡ touched_by v point
+      pub made : RemadeAll v (shown picture point) (touched_by v point) d.remade.made

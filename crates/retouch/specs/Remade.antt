@@ -5,7 +5,6 @@ use Rattle.format.specs.Indices.{among}
 use Rattle.format.specs.declared.Pixel.{Pixel}
 use Rattle.format.specs.Pixel.{clear, equal}
 use Rattle.format.specs.Picture.{Picture, pixels, written}
-use Rattle.format.specs.Made.{missing, made}
 use Rattle.format.specs.Retouch.{differ, marks, mask_of, unmade}
 use Rattle.chain.specs.declared.record.ValidChain.{ValidChain}
 use Rattle.chain.specs.Valid.{steps_of, records_in, stored_by}
@@ -26,12 +25,6 @@ marked n f earlier r v = (ltb r n && not (equal (f r) v)) && not (among r earlie
 -- the strip of a picture f
 abbrev pub strip_of : ValidChain → Picture → Picture
 strip_of v f = stored_by v.chain v.«data».now v.chain.count f
-
--- what making record r of the strip gives; any pixel stands for one past the strip
-abbrev pub made_inside : ValidChain → Picture → ℕ → Option Pixel
-made_inside v f r =
-    made (ltb r (records_in v.chain) && missing (steps_of v.chain) v.«data».now v.chain.count f r)
-    (if ltb r (records_in v.chain) then strip_of v f r else clear)
 
 -- one of the records rs cannot be made of the picture f
 abbrev pub cannot : ValidChain → Picture → List ℕ → Bool

@@ -1,38 +1,32 @@
 // The mask of the records that change: bit k is that of spot k.
-ghost use Rattle.std.specs.Prelude.{not, ◌&&◌, ◌≡◌, ◌*◌, ◌<◌, ◌≤◌, ltb, length};
-ghost use Rattle.format.specs.Pixel.{equal};
+ghost use Rattle.std.specs.Prelude.{◌≡◌, ◌/◌, length};
 ghost use Rattle.format.specs.Picture.{pixels};
 ghost use Rattle.retouch.specs.Remade.{MasksMade, marked};
+ghost use Rattle.retouch.specs.Spots.{records_of};
 
 use crate::changes::Changes;
+use crate::remake::Remade;
 use format::Pixel;
 use pixel::word::Word;
 
-// Whether record r is one of the strip's first n, and is not v. The strip and n are no struct: `write` is lent the strip
-// to change it, and would have to say that n stays.
-fn differs(strip: &[u8], n: usize, r: usize, v: Pixel) -> bool
-    requires { 4 * n ≤ length strip.now }
-    ensures { result ≡ (ltb r n && not (equal (pixels strip.now r) v)) }
+// Whether the strip has a record r, which is not v and is no earlier spot's.
+fn mark(strip: &[u8], earlier: &[usize], r: usize, v: Pixel) -> bool
+    ensures { result ≡ marked (length strip.now / 4) (pixels strip.now) earlier.now r v }
 {
-    r < n && Word::at(strip, r) != Word::from(v)
+    r < strip.len() / 4 && Word::at(strip, r) != Word::from(v) && !earlier.contains(&r)
 }
 
-// Whether record r is not v, and is no earlier spot's.
-fn mark(strip: &[u8], n: usize, earlier: &[usize], r: usize, v: Pixel) -> bool
-    requires { 4 * n ≤ length strip.now }
-    ensures { result ≡ marked n (pixels strip.now) earlier.now r v }
-{
-    differs(strip, n, r, v) && !earlier.contains(&r)
-}
-
-// The changes, where `made` has the records of the strip to come.
-pub fn changes_of(strip: &[u8], n: usize, records: &[usize], made: [Pixel; 5]) -> Changes
-    requires { (4 * n ≤ length strip.now) × (length records.now ≤ 5) }
-    ensures { MasksMade n records.now made (pixels strip.now) result.mask }
-{
-    let mut mask = 0;
-    for (k, r) in records.iter().enumerate() {
-        mask += u32::from(mark(strip, n, &records[..k], *r, made[k])) << k;
+impl Remade {
+    // `strip` is the strip's records alone.
+    pub fn changes(&self, strip: &[u8]) -> Changes
+        ensures { MasksMade (length strip.now / 4) (records_of self.now.spots) self.now.made (pixels strip.now)
+            result.mask }
+    {
+        let records = self.spots.as_slice();
+        let mut mask = 0;
+        for (k, (r, v)) in records.iter().zip(&self.made).enumerate() {
+            mask += u32::from(mark(strip, &records[..k], *r, *v)) << k;
+        }
+        Changes { mask }
     }
-    Changes { mask }
 }

@@ -14,7 +14,7 @@ pub struct Records {
 
 impl Records {
     pub fn as_slice(&self) -> &[usize]
-        ensures { result.now ≡ take self.now.count self.now.places }
+        ensures { (result.now ≡ take self.now.count self.now.places) × (length result.now ≤ 5) }
     {
         &self.places[..self.count]
     }

@@ -1,31 +1,36 @@
 // The records of the spots made afresh, of the picture with its point painted.
-ghost use Rattle.std.specs.Prelude.{◌≡◌, ◌≤◌, length};
+ghost use Rattle.std.specs.Prelude.{◌≡◌, IfSome, length, option_map};
 ghost use Rattle.item.specs.Source.{picture_of};
-ghost use Rattle.retouch.specs.Remade.{made_inside, RemadeBy};
+ghost use Rattle.retouch.specs.Remade.{RemadeBy};
+ghost use Rattle.retouch.specs.Spots.{records_of};
 
-use crate::strip::records_in;
+use crate::records::Records;
 use format::Pixel;
 use item::painted::Painted;
 use pixel::pixel::CLEAR;
 
-// Record r of the strip. A spot past the strip has none, and nothing of it is looked at.
-fn remake_inside(painted: &Painted, r: usize) -> Option<Pixel>
-    ensures { result ≡ made_inside painted.now.opened (picture_of painted.now) r }
-{
-    if records_in(&painted.opened) <= r {
-        return Some(CLEAR);
-    }
-    painted.item(painted.opened.chain.count, r)
+// The records of the spots, and what each is in the strip to come, at the same index: two arrays since there is no
+// heap, and the places are known before the pixels.
+#[derive(Clone, Copy)]
+pub struct Remade {
+    pub spots: Records,
+    pub made: [Pixel; 5],
+    pub ghost full: { length made ≡ 5 },
 }
 
 // None where one cannot be made. By the index of `made`: of what a `zip` of its `iter_mut` wrote no fact is known.
-pub fn remake(painted: &Painted, records: &[usize]) -> Option<[Pixel; 5]>
-    requires { length records.now ≤ 5 }
-    ensures { RemadeBy painted.now.opened (picture_of painted.now) records.now result }
+pub fn remake(painted: &Painted, spots: Records) -> Option<Remade>
+    ensures made { RemadeBy painted.now.opened (picture_of painted.now) (records_of spots)
+        (option_map (λ remade. remade.made) result) }
+    ensures spots { IfSome result (λ remade. remade.spots ≡ spots) }
 {
+    let records = spots.as_slice();
     let mut made = [CLEAR; 5];
     for (k, r) in records.iter().enumerate() {
-        made[k] = remake_inside(painted, *r)?;
+        // A spot past the strip has no record: nothing of it is looked at, and its bit stays 0.
+        if *r < painted.opened.records() {
+            made[k] = painted.item(painted.opened.chain.count, *r)?;
+        }
     }
-    Some(made)
+    Some(Remade { spots, made })
 }

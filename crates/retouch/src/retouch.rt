@@ -6,7 +6,6 @@ ghost use Rattle.retouch.specs.Decided.{Retouchable, answer_by, picture_left, st
 
 use crate::changes::Changes;
 use crate::decide::decide;
-use crate::strip::{records_in, write};
 use chain::open;
 use chain::record::ValidChain;
 use format::{Pixel, Refusal};
@@ -33,12 +32,7 @@ fn retouch_valid(
     };
     let decision = decide(&painted, strip)?;
     put_pixel(picture, point.index, point.color);
-    write(
-        strip,
-        records_in(opened),
-        decision.spots.as_slice(),
-        decision.made,
-    );
+    decision.remade.write(&mut strip[..4 * opened.records()]);
     Ok(decision.changes)
 }
 

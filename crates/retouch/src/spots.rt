@@ -1,10 +1,10 @@
 // The records of a point's spots: the point followed through the chain. A predictor has five spots for it, and a
 // chain at most one predictor.
-ghost use Rattle.std.specs.Prelude.{◌≡◌, [], ◌∷◌, ◌<◌, ◌≤◌, get_or};
+ghost use Rattle.std.specs.Prelude.{◌≡◌, [], ◌∷◌, ◌<◌, ◌≤◌};
 ghost use Rattle.format.specs.Indices.{union};
 ghost use Rattle.format.specs.Retouch.{five_spots, packed_over, spots_of};
 ghost use Rattle.chain.specs.Valid.{pixels_in};
-ghost use Rattle.retouch.specs.Spots.{records_of, first_of, packs, touched_by};
+ghost use Rattle.retouch.specs.Spots.{records_of, first_of, touched_by};
 
 use crate::records::Records;
 use chain::record::Record;
@@ -14,10 +14,12 @@ use item::place::Place;
 use pixel::stride::{Expanded, packed_width, per_pixel};
 
 // The packed pixel that holds item q of a table's stage.
-fn packed_over(row: Expanded, size: usize, q: usize) -> usize
-    requires { (1 ≤ row.0) × (row.0 ≤ 16384) }
-    ensures { (result ≡ packed_over row.0 size q) × (result ≤ q) }
+#[tactic(auto, using(crate::proofs::Follow::packed_before))]
+fn packed_over(record: &Record, q: usize) -> usize
+    ensures { (result ≡ packed_over «record».now.step.width «record».now.step.size q) × (result ≤ q) }
 {
+    let row = Expanded(record.step.width);
+    let size = record.step.size;
     let at = Place::of(q, row);
     let packed = Place {
         x: at.x / per_pixel(size),
@@ -26,20 +28,12 @@ fn packed_over(row: Expanded, size: usize, q: usize) -> usize
     packed.index(packed_width(row, size))
 }
 
-// Those that hold five of them.
-fn pack_each(row: Expanded, size: usize, places: [usize; 5]) -> [usize; 5]
-    requires { (1 ≤ row.0) × (row.0 ≤ 16384) }
-    ensures { (result ≡ packs row.0 size places) × (get_or result 0 0 ≤ get_or places 0 0) }
-{
-    places.map(|q| packed_over(row, size, q))
-}
-
 impl Records {
-    // The spots of the first, in a stage of w columns.
-    fn spread(self, w: usize) -> Records
-        requires { (1 ≤ w) × (w ≤ 16384) }
-        ensures { records_of result ≡ five_spots w (first_of self) }
+    // The spots of the first, in a predictor's stage.
+    fn spread(self, record: &Record) -> Records
+        ensures { records_of result ≡ five_spots «record».now.step.width (first_of self) }
     {
+        let w = record.step.width;
         let p = self.places[0];
         Records {
             places: [p, p + 1, p + w - 1, p + w, p + w + 1],
@@ -48,12 +42,12 @@ impl Records {
     }
 
     // The packed pixels that hold them, of a table's stage.
-    fn packed(self, row: Expanded, size: usize) -> Records
-        requires { (1 ≤ row.0) × (row.0 ≤ 16384) }
-        ensures { records_of result ≡ union (λ q. packed_over row.0 size q ∷ []) (records_of self) }
+    fn packed(self, record: &Record) -> Records
+        ensures { records_of result
+            ≡ union (λ q. packed_over «record».now.step.width «record».now.step.size q ∷ []) (records_of self) }
     {
         Records {
-            places: pack_each(row, size, self.places),
+            places: self.places.map(|q| packed_over(record, q)),
             count: self.count,
         }
     }
@@ -64,11 +58,10 @@ impl Records {
         requires { «record».now.step.kind ≡ 0 → self.count ≡ 1 }
         ensures { records_of result ≡ union (spots_of «record».now.step) (records_of self) }
     {
-        let s = record.step;
         match record.transform_type() {
-            TransformType::Predictor => self.spread(s.width),
+            TransformType::Predictor => self.spread(record),
             TransformType::Color | TransformType::SubtractGreen => self,
-            TransformType::ColorTable => self.packed(Expanded(s.width), s.size),
+            TransformType::ColorTable => self.packed(record),
         }
     }
 }
@@ -78,12 +71,10 @@ pub fn spots_of(painted: &Painted) -> Records
     requires { painted.now.point.index < pixels_in painted.now.opened.chain }
     ensures { records_of result ≡ touched_by painted.now.opened painted.now.point }
 {
-    let mut spots = Records {
+    let point = Records {
         places: [painted.point.index, 0, 0, 0, 0],
         count: 1,
     };
-    for k in 0..painted.opened.chain.count {
-        spots = spots.followed(&painted.opened.record(k));
-    }
-    spots
+    let opened = &painted.opened;
+    (0..opened.chain.count).fold(point, |spots, k| spots.followed(&opened.record(k)))
 }

@@ -46,7 +46,7 @@ module _ (v : ValidChain) (f : Picture) where
 
 -- over the rows that the records before it make
 pub table_decides : (s : Storing) (a : Accepted) (t : ℕ) (l : Lookup) → (a.storing.now ≡ s) × (a.count ≡ t) → IsTable s.opened t → Looks s.opened t l → (b : Bool)
-    → b ≡ have_entries l.size (pixels l.entries.now) (s.opened.chain.height * a.width) (stage a a.count) → b ≡ accepted s
+    → b ≡ have_entries l.entries.size (pixels l.entries.bytes.now) (s.opened.chain.height * a.width) (stage a a.count) → b ≡ accepted s
 table_decides s a t l (e, n) at k b q =
     let v = s.opened in
     let w : a.width ≡ (step_of v t).width = (rw (e, n) at a.wide) ∙ sym (v.valid.width t at.below) in

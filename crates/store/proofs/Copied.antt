@@ -6,14 +6,14 @@ use Prim.Native.Nat.{ℕ, zero, suc, ◌+◌, ◌-◌, ◌*◌, ◌<◌, ◌≤�
 use native.Mathlib.Nat.{add-mul, one-mul}
 use native.Mathlib.Decide.{dec_lt}
 use native.Mathlib.Omega.{arith}
-use lib.ListN.{length, drop, length-drop}
+use lib.ListN.{length, take, drop, length-drop}
 use Rattle.format.specs.Picture.{Picture, pixels, written}
 use Rattle.format.specs.ColorTable.{has_entry, have_entries}
 use Rattle.format.proofs.Choice.{every_at, every_all}
 use Rattle.format.proofs.Written.{written_self}
 use Rattle.pixel.specs.Cells.{pixel_cells, run, given}
 use Rattle.pixel.specs.Held.{HoldsRow}
-use Rattle.pixel.proofs.Part.{back, part}
+use Rattle.pixel.proofs.Part.{back, part, pixels_part}
 use Rattle.pixel.proofs.Held.{held_back}
 use Rattle.pixel.proofs.Given.{given_written, front_done}
 use Rattle.pixel.proofs.Rows.{row_more}
@@ -23,7 +23,7 @@ use Rattle.chain.specs.Valid.{width_after}
 use Rattle.chain.proofs.Valid.{after_fits}
 use Rattle.store.specs.Stage.{Same}
 use Rattle.store.specs.Made.{chain_of, height_of, stage, RowOf, RowMade, HoldsMade, made_in}
-use Rattle.store.proofs.Lent.{lent_length}
+use Rattle.std.proofs.lemmas.List.Edits.{length-between}
 use Rattle.store.proofs.Packed.{row_entries}
 
 -- two buffers that hold the n pixels alone
@@ -35,16 +35,24 @@ whole_written zero f (x ∷ xs) ys p q = absurd (omega arith)
 whole_written (suc n) f xs ys p q =
     cc (whole_written n (λ i. f (suc i)) (drop 4 xs) (drop 4 ys) (length-drop 4 xs ∙ omega arith) (length-drop 4 ys ∙ omega arith))
 
-module _ (y w : ℕ) (strip : List ℕ) (room : 4 * (y * w) + 4 * w ≤ length strip) where
-  pub part_length : length (part (y * w) w strip) ≡ 4 * w
-  part_length = lent_length (4 * (y * w)) (4 * (y * w) + 4 * w) strip (omega arith) room ∙ omega arith
+-- row y, of w pixels, from byte `from` of a buffer up to byte `to`
+module _ (y w : ℕ) (xs : List ℕ) (from to : ℕ) (start : from ≡ 4 * (y * w)) (end : to ≡ 4 * (y * w) + 4 * w) (room : to ≤ length xs) where
+  pub part_length : length (take (to - from) (drop from xs)) ≡ 4 * w
+  part_length = length-between xs from to room ∙ omega arith
 
-  -- a row, which came back as its part of the strip
-  row_in_strip : (g : Picture) (z : List ℕ) → length z ≡ 4 * w → HoldsRow g y w z → back (4 * (y * w)) (4 * (y * w) + 4 * w - 4 * (y * w)) strip z ≡ run pixel_cells (given g) (y * w) w strip
-  row_in_strip g z full h =
-      let m = part_length in
-      let same = sym (written_self w z (omega arith)) ∙ whole_written w (pixels z) z (part (y * w) w strip) full m in
-      held_back g y w z strip z (same ∙ sym (given_written (pixels z) w (part (y * w) w strip) (omega arith))) h room
+  -- as it is lent
+  pub lent_row : HoldsRow (pixels xs) y w (take (to - from) (drop from xs))
+  lent_row x l = rw (end, start) (pixels_part (y * w) w xs (omega arith) x l)
+
+  -- as it came back
+  row_in_strip : (g : Picture) (z : List ℕ) → length z ≡ 4 * w → HoldsRow g y w z → back from (to - from) xs z ≡ run pixel_cells (given g) (y * w) w xs
+  row_in_strip g z full h = rw (end, start) (held_back g y w z xs z (same ∙ sym (given_written (pixels z) w (part (y * w) w xs) (omega (arith, long)))) h (omega arith))
+    where
+      long : length (part (y * w) w xs) ≡ 4 * w
+      long = rw (end, start) at part_length
+
+      same : z ≡ written w (pixels z) (part (y * w) w xs)
+      same = sym (written_self w z (omega arith)) ∙ whole_written w (pixels z) z (part (y * w) w xs) full long
 
 pub stage_narrow : (a : Accepted) → a.width ≤ 16384
 stage_narrow a = let v = chain_of a in rw a.wide (after_fits v.chain _ v.valid a.count a.few)
@@ -62,9 +70,11 @@ module _ (a : Accepted) (y : ℕ) (old strip : List ℕ) (long : length strip �
   pub strip_room : y < height_of a → 4 * (y * a.width) + 4 * a.width ≤ length strip
   strip_room l = let r = row_there a.width (height_of a) y l in omega arith
 
-  pub row_done : (z : List ℕ) → y < height_of a → Done a y old strip → length z ≡ 4 * a.width → RowMade a y z
-      → Done a (y + 1) old (back (4 * (y * a.width)) (4 * (y * a.width) + 4 * a.width - 4 * (y * a.width)) strip z)
-  row_done z l e full h = row_more (given (stage a a.count)) y a.width old strip _ e (row_in_strip y a.width strip (strip_room l) (stage a a.count) z full h)
+  pub row_done : (from to : ℕ) → from ≡ 4 * (y * a.width) → to ≡ 4 * (y * a.width) + 4 * a.width → (z : List ℕ) → y < height_of a → Done a y old strip → length z ≡ 4 * a.width → RowMade a y z
+      → Done a (y + 1) old (back from (to - from) strip z)
+  row_done from to start end z l e full h =
+      let room = strip_room l in
+      row_more (given (stage a a.count)) y a.width old strip _ e (row_in_strip y a.width strip from to start end (omega arith) (stage a a.count) z full h)
 
   pub all_done : Done a y old strip → y ≡ height_of a → strip ≡ made_in a old
   all_done e q = front_done (stage a a.count) (y * a.width) (height_of a * a.width) old strip e (ap (λ (k : ℕ). k * a.width) q) holds

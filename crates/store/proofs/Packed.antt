@@ -12,7 +12,7 @@ use Rattle.format.specs.ColorTable.{per_pixel, range, packed_width, index_of, ha
 use Rattle.format.proofs.Choice.{every_at, every_all}
 use Rattle.format.proofs.ColorTable.{per_pixel_pos, digits_same, first_inside, column_inside}
 use Rattle.color_table.proofs.Rows.{packed_fewer}
-use Rattle.format.proofs.Written.{pixels_written}
+use Rattle.format.proofs.Written.{written_read}
 use Rattle.store.specs.Stage.{PackedBy}
 use Rattle.pixel.specs.Held.{HoldsRow}
 
@@ -29,8 +29,7 @@ packed_in w size y e f g j l h =
 
 -- a row that was packed
 pub packed_row : (size : ℕ) (e : Picture) (w : ℕ) (row xs ys : List ℕ) → ys ≡ written (packed_width size w) (packed w size e (pixels row)) xs → PackedBy size e w row ys
-packed_row size e w row xs ys q x l =
-    ap (λ (zs : List ℕ). pixels zs x) q ∙ pixels_written (packed_width size w) (packed w size e (pixels row)) xs x l
+packed_row size e w row xs ys q = written_read (packed_width size w) (packed w size e (pixels row)) xs ys q
 
 -- a row of an accepted picture
 pub row_entries : (w h size y : ℕ) (e f : Picture) (xs : List ℕ) → have_entries size e (h * w) f ≡ true → HoldsRow f y w xs → y < h → have_entries size e w (pixels xs) ≡ true

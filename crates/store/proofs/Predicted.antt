@@ -1,43 +1,62 @@
--- The predictor's turn on a row: the row is copied behind the row above, both are lent, and the row takes the place of
--- the row above.
-use mathlib.Core.List.{List}
+-- The predictor's turn on a row: the row is copied behind the row above, and takes its place at the end.
+use mathlib.Core.List.{List, ◌++◌}
 use mathlib.Core.Path.{◌≡◌, ap, ◌∙◌}
 use Prim.Native.Nat.{ℕ, ◌+◌, ◌-◌, ◌*◌, ◌<◌, ◌≤◌}
 use native.Mathlib.Omega.{arith}
 use lib.ListN.{length, take, drop}
+use lib.Seq.{length-take-le}
 use Rattle.format.specs.Picture.{Picture, pixels}
+use Rattle.format.proofs.Written.{pixels_same}
 use Rattle.pixel.specs.Held.{HoldsRow}
-use Rattle.pixel.proofs.Part.{back, pixel_back, pixel_before}
-use Rattle.store.proofs.Lent.{lent_length, back_length, front_pixel, front_back}
+use Rattle.pixel.proofs.Part.{back}
+use Rattle.color_table.proofs.Fronts.{pixels_front}
+use Rattle.store.proofs.Lent.{back_length, pixel_first, pixel_second}
 
--- the front of the row, lent, is copied to its part, which came back as z
-module _ (w : ℕ) (row rows z : List ℕ) (e : z ≡ take (4 * w - 0) (drop 0 row)) (room : 4 * w ≤ length row) (fits : 8 * w ≤ length rows) where
+-- the front of the row was copied behind that of the rows, as z
+module _ (w : ℕ) (row rows z : List ℕ) (e : z ≡ take (4 * w) row) (room : 4 * w ≤ length row) (fits : 8 * w ≤ length rows) where
+  abbrev front : List ℕ
+  front = take (2 * (4 * w)) rows
+
+  abbrev above : List ℕ
+  above = take (4 * w) front
+
+  -- what stands behind it, once z is back
+  abbrev rest : List ℕ
+  rest = z ++ drop (length front - 4 * w) (drop (4 * w) front)
+
   abbrev both : List ℕ
-  both = back (4 * w) (8 * w - 4 * w) rows z
+  both = back (4 * w) (length front - 4 * w) front z
 
-  full : length z ≡ 8 * w - 4 * w
-  full = let l = lent_length 0 (4 * w) row (omega arith) room in ap (λ (ys : List ℕ). length ys) e ∙ l ∙ omega arith
+  front_length : length front ≡ 2 * (4 * w)
+  front_length = length-take-le (2 * (4 * w)) rows (omega arith)
 
-  pub both_length : length both ≡ length rows
-  both_length = back_length (4 * w) (8 * w - 4 * w) rows z (omega arith) full
+  above_length : length above ≡ 4 * w
+  above_length = length-take-le (4 * w) front (omega (arith, front_length))
+
+  full : length z ≡ 4 * w
+  full = ap (λ (ys : List ℕ). length ys) e ∙ length-take-le (4 * w) row room
+
+  pub both_length : length both ≡ 2 * (4 * w)
+  both_length = back_length (4 * w) (length front - 4 * w) front z (omega (arith, front_length)) (omega (arith, front_length, full)) ∙ front_length
 
   -- the row, behind the row above
   pub behind : (x : ℕ) → x < w → pixels both (w + x) ≡ pixels row x
   behind x l =
-      pixel_back w (8 * w - 4 * w) rows (omega arith) z full x (omega arith)
-      ∙ ap (λ (ys : List ℕ). pixels ys x) e
-      ∙ front_pixel (4 * w) row x (omega arith) room
+      pixel_second w above rest x above_length
+      ∙ pixel_first z _ x (omega (arith, full))
+      ∙ pixels_same e x
+      ∙ pixels_front (4 * w) row x (omega arith)
 
-  -- as they are lent
-  pub lent_behind : (y : ℕ) (f : Picture) → HoldsRow f y w row → (x : ℕ) → x < w → pixels (take (8 * w - 0) (drop 0 both)) (w + x) ≡ f (y * w + x)
-  lent_behind y f h x l = front_pixel (8 * w) both (w + x) (omega arith) (let k = both_length in omega arith) ∙ behind x l ∙ h x l
+  pub held_behind : (y : ℕ) (f : Picture) → HoldsRow f y w row → (x : ℕ) → x < w → pixels both (w + x) ≡ f (y * w + x)
+  held_behind y f h x l = behind x l ∙ h x l
 
-  pub lent_above : (y : ℕ) (f : Picture) → HoldsRow f (y - 1) w rows → HoldsRow f (y - 1) w (take (8 * w - 0) (drop 0 both))
-  lent_above y f h x l =
-      front_pixel (8 * w) both x (omega arith) (let k = both_length in omega arith)
-      ∙ pixel_before w (8 * w - 4 * w) rows z (omega arith) x l
+  pub held_above : (y : ℕ) (f : Picture) → HoldsRow f (y - 1) w rows → HoldsRow f (y - 1) w both
+  held_above y f h x l =
+      pixel_first above rest x (omega (arith, above_length))
+      ∙ pixels_front (4 * w) front x (omega arith)
+      ∙ pixels_front (2 * (4 * w)) rows x (omega arith)
       ∙ h x l
 
--- the residuals' part, back in the row
-pub back_row : (g : Picture) (y w : ℕ) (row z : List ℕ) → HoldsRow g y w z → length z ≡ 4 * w - 0 → 4 * w ≤ length row → HoldsRow g y w (back 0 (4 * w - 0) row z)
-back_row g y w row z h full fits x l = front_back (4 * w) row z x full (omega arith) fits ∙ h x l
+-- a row that came back as the front of a buffer
+pub held_first : (g : Picture) (y w : ℕ) (z rest : List ℕ) → HoldsRow g y w z → length z ≡ 4 * w → HoldsRow g y w (z ++ rest)
+held_first g y w z rest h full x l = pixel_first z rest x (omega arith) ∙ h x l

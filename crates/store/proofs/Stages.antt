@@ -1,15 +1,15 @@
 -- A row through the records of a valid chain.
-use mathlib.Core.Bool.{Bool, true, false, ◌&&◌}
+use mathlib.Core.Bool.{true, and-true}
 use mathlib.Core.List.{List}
 use mathlib.Core.Path.{◌≡◌, refl, sym, subst, ◌∙◌}
 use Prim.Native.Nat.{ℕ, zero, suc, ◌+◌, ◌-◌, ◌<◌, ◌≤◌}
 use native.Mathlib.Nat.{le_refl}
 use native.Mathlib.Decide.{ℕ_discrete}
 use native.Mathlib.Omega.{arith}
+use Rattle.std.proofs.lemmas.Bool.{and_parts}
 use Rattle.format.specs.declared.Step.{Step}
 use Rattle.format.specs.Picture.{Picture, pixels}
 use Rattle.format.specs.Stages.{stored, takes, accepts}
-use Rattle.format.proofs.Choice.{and_left, and_right}
 use Rattle.format.proofs.ByKind.{takes_table, takes_other}
 use Rattle.pixel.specs.Held.{HoldsRow}
 use Rattle.chain.specs.declared.record.ValidChain.{ValidChain}
@@ -28,10 +28,10 @@ module _ (steps : ℕ → Step) (h : ℕ) (ds : List ℕ) (f : Picture) where
   pub accepts_at : (count k : ℕ) → k < count → accepts steps h ds count f ≡ true → takes (steps k) h ds (stored steps ds k f) ≡ true
   unfolding accepts
   accepts_at zero k l e = absurd (omega arith)
-  accepts_at (suc c) k l e = go (ℕ_discrete k c) (λ u. accepts_at c k u (and_left (accepts steps h ds c f) (takes (steps c) h ds (stored steps ds c f)) e))
+  accepts_at (suc c) k l e = go (ℕ_discrete k c) (λ u. accepts_at c k u (and_parts (accepts steps h ds c f) (takes (steps c) h ds (stored steps ds c f)) e).0)
     where
       go : Dec (k ≡ c) → (k < c → takes (steps k) h ds (stored steps ds k f) ≡ true) → takes (steps k) h ds (stored steps ds k f) ≡ true
-      go (yes p) ih = rw p (and_right (accepts steps h ds c f) (takes (steps c) h ds (stored steps ds c f)) e)
+      go (yes p) ih = rw p (and_parts (accepts steps h ds c f) (takes (steps c) h ds (stored steps ds c f)) e).1
       go (no d) ih = ih (omega arith)
 
   -- records without a table accept every picture
@@ -49,11 +49,7 @@ module _ (steps : ℕ → Step) (h : ℕ) (ds : List ℕ) (f : Picture) where
   accepts_table t (suc i) d =
       let z : suc i + suc t ≡ suc (i + suc t) = omega arith in
       rw (z, accepts_table t i (λ j l e. d j (omega arith) e), takes_other (steps (i + suc t)) h ds (stored steps ds (i + suc t) f) (λ e. let q = d (i + suc t) (omega arith) e in omega arith))
-      (right (takes (steps t) h ds (stored steps ds t f)))
-    where
-      right : (b : Bool) → (b && true) ≡ b
-      right true = refl
-      right false = refl
+      (and-true (takes (steps t) h ds (stored steps ds t f)))
 
 module _ (a : Accepted) where
   abbrev v : ValidChain

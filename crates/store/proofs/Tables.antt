@@ -41,8 +41,8 @@ module _ (v : ValidChain) where
 
   -- a look-up finds what its record packs by
   module _ (k : ℕ) (l : Lookup) (looks : Looks v k l) where
-    pub looked : (w : ℕ) (f : Picture) → have_entries l.size (pixels l.entries.now) w f ≡ have_entries (step_of v k).size (part_of (step_of v k) v.«data».now) w f
+    pub looked : (w : ℕ) (f : Picture) → have_entries l.entries.size (pixels l.entries.bytes.now) w f ≡ have_entries (step_of v k).size (part_of (step_of v k) v.«data».now) w f
     looked w f = rw (looks.size, looks.entries) refl
 
-    pub looked_width : (step_of v k).kind ≡ 3 → (w : ℕ) → (step_of v k).width ≡ w → packed_width l.size w ≡ narrowed (step_of v k)
+    pub looked_width : (step_of v k).kind ≡ 3 → (w : ℕ) → (step_of v k).width ≡ w → packed_width l.entries.size w ≡ narrowed (step_of v k)
     looked_width kind w e = rw (looks.size, sym e) (sym (narrowed_table (step_of v k) kind))

@@ -57,9 +57,6 @@ pub record IsTable (v : ValidChain) (t : ℕ) : Type 0 where
   pub below : t < v.chain.count
   pub kind : (step_of v t).kind ≡ 3
 
-abbrev pub TableFirst : ValidChain → Type 0
-TableFirst v = IsTable v 0
-
 abbrev pub NoTable : ValidChain → Type 0
 NoTable v = (j : ℕ) → j < v.chain.count → (step_of v j).kind ≡ 3 → ⊥
 
@@ -69,16 +66,11 @@ TableAt v t = MatchOption t (NoTable v) (IsTable v)
 
 -- l finds the entries of record k
 pub record Looks (v : ValidChain) (k : ℕ) (l : Lookup) : Type 0 where
-  pub size : l.size ≡ (step_of v k).size
-  pub entries : l.entries.now ≡ data_of (step_of v k) v.«data».now
+  pub size : l.entries.size ≡ (step_of v k).size
+  pub entries : l.entries.bytes.now ≡ data_of (step_of v k) v.«data».now
 
 -- t is the record that is a table, and finds its entries
 pub record TableFor (v : ValidChain) (t : Option Table) : Type 0 where
   pub at : (b : Table) → t ≡ Some b → IsTable v b.at
   pub looks : (b : Table) → t ≡ Some b → Looks v b.at b.lookup
   pub none : t ≡ None → NoTable v
-
--- of the first m records it is the only one
-pub record TableAlone (v : ValidChain) (m : ℕ) : Type 0 where
-  pub one : m ≡ 1
-  pub table : TableFirst v

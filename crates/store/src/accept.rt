@@ -1,7 +1,7 @@
 // Whether storing accepts a picture: each pixel that reaches the table has an entry. No byte of the strip is written
 // here.
 ghost use Rattle.std.specs.Prelude.{◌≡◌};
-ghost use Rattle.store.specs.Stage.{IsTable, TableFirst};
+ghost use Rattle.store.specs.Stage.{IsTable};
 ghost use Rattle.store.specs.Turns.{accepted};
 
 use crate::scratch::Scratch;
@@ -10,12 +10,11 @@ use crate::storing::Storing;
 impl<'a> Storing<'a> {
     // Whether each pixel of the picture has an entry, where the first record is a table: all rows at once.
     pub fn accept_first(&self) -> bool
-        requires { TableFirst self.now.opened }
+        requires { IsTable self.now.opened 0 }
         ensures { result ≡ accepted self.now }
     {
-        let chain = self.opened.chain;
         self.lookup(0)
-            .accept(self.picture, chain.height * chain.width.0)
+            .accept(&self.picture[..4 * self.opened.pixels()])
     }
 
     // Whether each pixel of the stage before record t, which is a table, has an entry.
@@ -25,11 +24,11 @@ impl<'a> Storing<'a> {
     {
         let before = self.accepted_by(t);
         let lookup = self.lookup(t);
-        // A `for`, since each row is made in the scratch: no law of `all` goes through a closure that changes what it
+        // A `for`, since each row is made in the scratch: no law of `all` is about a closure that changes what it
         // holds.
         for y in 0..self.opened.chain.height {
             before.make_row(y, scratch);
-            if !lookup.accept(scratch.front(before.width), before.width) {
+            if !lookup.accept(scratch.front(before.width)) {
                 return false;
             }
         }

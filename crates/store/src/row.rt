@@ -1,15 +1,16 @@
-// A row of the picture on its way through the first records of a chain.
+// A row of the picture after the first records of a chain. That row y is inside is asked wherever one is named, as of
+// any index.
 ghost use Rattle.std.specs.Prelude.{◌≡◌, ◌*◌, ◌<◌, ◌≤◌, length};
 ghost use Rattle.format.specs.Picture.{pixels};
 ghost use Rattle.format.specs.Chain.{narrowed};
 ghost use Rattle.pixel.specs.Held.{HoldsRow};
 ghost use Rattle.chain.specs.Valid.{width_after};
-ghost use Rattle.store.specs.Stage.{step_of, TableFirst};
+ghost use Rattle.store.specs.Stage.{step_of, IsTable};
 ghost use Rattle.store.specs.Turns.{AcceptsIn};
 
 use crate::scratch::Scratch;
 use crate::storing::Storing;
-use pixel::stride::Expanded;
+use pixel::row::row_bytes;
 
 // The first `count` records, which accept the picture, and the width that its rows have after them.
 #[derive(Clone, Copy)]
@@ -28,7 +29,7 @@ impl<'a> Storing<'a> {
         requires { (count ≤ self.now.opened.chain.count) × AcceptsIn self.now count }
         ensures { (result.storing.now ≡ self.now) × (result.count ≡ count) }
     {
-        let chain = self.opened.chain;
+        let chain = &self.opened.chain;
         let width = if count < chain.count {
             chain.steps[count].width
         } else {
@@ -47,10 +48,7 @@ impl<'a> Storing<'a> {
         ensures { HoldsRow (pixels self.now.picture.now) y self.now.opened.chain.width.0 result.now
             × (length result.now ≡ 4 * self.now.opened.chain.width.0) }
     {
-        let width = self.opened.chain.width.0;
-        let a = 4 * (y * width);
-        let b = a + 4 * width;
-        &self.picture[a..b]
+        &self.picture[row_bytes(y, self.opened.chain.width.0)]
     }
 }
 
@@ -59,15 +57,12 @@ impl<'a> Accepted<'a> {
 
     // Row y of the picture packed in `out`, where the first record is a table.
     pub fn pack_first(&self, y: usize, out: &mut [u8])
-        requires first { TableFirst (chain_of self.now) × (1 ≤ self.now.count) }
+        requires first { IsTable (chain_of self.now) 0 × (1 ≤ self.now.count) }
         requires inside { (y < height_of self.now) × (4 * narrowed (step_of (chain_of self.now) 0) ≤ length out.old) }
         ensures { RowOf self.now 1 y out.new }
     {
         let storing = self.storing;
-        let width = Expanded(storing.opened.chain.width.0);
-        storing
-            .lookup(0)
-            .pack_row(storing.picture_row(y), width, out);
+        storing.lookup(0).pack_row(storing.picture_row(y), out);
     }
 
     // Row y made ready in `row`: as it is in the picture, or packed where the first record is a table. The number of
@@ -81,7 +76,7 @@ impl<'a> Accepted<'a> {
             return 1;
         }
         let from = self.storing.picture_row(y);
-        row[0..from.len()].copy_from_slice(from);
+        row[..from.len()].copy_from_slice(from);
         0
     }
 

@@ -17,6 +17,6 @@ impl Scratch {
         requires { width ≤ 16384 }
         ensures { (length result.now ≡ 4 * width) × Same width self.now.row result.now }
     {
-        &self.row[0..4 * width]
+        &self.row[..4 * width]
     }
 }

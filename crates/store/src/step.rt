@@ -13,31 +13,32 @@ use pixel::block::Blocks;
 use pixel::stride::{Expanded, packed_width};
 
 // Residuals, from the row above and the row, which then is the row above of the next.
-// The rows come as slices here and in `pack_accepted`: the check covers no part of an array that is a struct's field
-// behind a reference.
+// The rows come as slices here and in `pack_accepted`: where a struct has ghost fields, the check does not lend parts
+// of two of its fields at once.
 fn predict_row(blocks: &Blocks, y: usize, row: &mut [u8], rows: &mut [u8])
     requires { (y < blocks.now.height) × (4 * blocks.now.width ≤ length row.old)
         × (8 * blocks.now.width ≤ length rows.old) }
     ensures made { PredictedRow blocks.now y row.old rows.old row.new }
     ensures left { Same blocks.now.width row.old rows.new }
 {
-    let a = 4 * blocks.width;
-    let b = 8 * blocks.width;
-    rows[a..b].copy_from_slice(&row[0..a]);
-    predictor::forward::store_row(&rows[0..b], &mut row[0..a], blocks, y);
-    rows.copy_within(a..b, 0);
+    let bytes = 4 * blocks.width;
+    let row = &mut row[..bytes];
+    let rows = &mut rows[..2 * bytes];
+    rows[bytes..].copy_from_slice(row);
+    predictor::forward::store_row(rows, row, blocks, y);
+    rows.copy_within(bytes.., 0);
 }
 
 // Indices, packed in `free` and copied back.
 fn pack_accepted(lookup: &Lookup, width: usize, row: &mut [u8], free: &mut [u8])
     requires room { (1 ≤ width) × (width ≤ 16384) × (length row.old ≡ 65536) × (length free.old ≡ 65536) }
-    requires accepted { have_entries lookup.now.size (pixels lookup.now.entries.now) width (pixels row.old) ≡ true }
-    ensures { PackedBy lookup.now.size (pixels lookup.now.entries.now) width row.old row.new }
+    requires accepted { have_entries lookup.now.entries.size (pixels lookup.now.entries.bytes.now) width
+        (pixels row.old) ≡ true }
+    ensures { PackedBy lookup.now.entries.size (pixels lookup.now.entries.bytes.now) width row.old row.new }
 {
-    let expanded = Expanded(width);
-    let n = 4 * packed_width(expanded, lookup.size).0;
-    lookup.pack_row(row, expanded, free);
-    row[0..n].copy_from_slice(&free[0..n]);
+    lookup.pack_row(&row[..4 * width], free);
+    let n = 4 * packed_width(Expanded(width), lookup.entries.size).0;
+    row[..n].copy_from_slice(&free[..n]);
 }
 
 impl<'a> Storing<'a> {
@@ -60,7 +61,7 @@ impl<'a> Storing<'a> {
                 color::subtract_green::store_row(&mut scratch.row, width);
             }
             TransformType::ColorTable => {
-                let free = &mut scratch.rows[65536..131072];
+                let free = &mut scratch.rows[65536..];
                 pack_accepted(self.lookup(k), width, &mut scratch.row, free);
             }
         }

@@ -3,7 +3,7 @@ ghost use Rattle.std.specs.Prelude.{◌≡◌, true};
 ghost use Rattle.format.specs.Refusals.{returned};
 ghost use Rattle.format.specs.Calls.{store_answer, store_strip};
 ghost use Rattle.chain.specs.Valid.{HoldsStrip};
-ghost use Rattle.store.specs.Stage.{TableAlone};
+ghost use Rattle.store.specs.Stage.{IsTable};
 ghost use Rattle.store.specs.Turns.{Stored};
 ghost use Rattle.store.specs.Made.{chain_of, HoldsMade, made_in};
 
@@ -12,6 +12,7 @@ use crate::scratch::Scratch;
 use crate::storing::Storing;
 use chain::open;
 use format::Refusal;
+use pixel::row::row_bytes;
 
 impl<'a> Accepted<'a> {
     // All rows.
@@ -21,22 +22,19 @@ impl<'a> Accepted<'a> {
     {
         for y in 0..self.storing.opened.chain.height {
             self.make_row(y, scratch);
-            let a = 4 * (y * self.width);
-            let b = a + 4 * self.width;
-            strip[a..b].copy_from_slice(scratch.front(self.width));
+            strip[row_bytes(y, self.width)].copy_from_slice(scratch.front(self.width));
         }
     }
 
     // All rows packed where they stand in the strip, by a table alone. This loop is no plainer with the one above in
     // one: the scratch that it does without takes longer to make than a small picture to pack.
     fn pack_rows(&self, strip: &mut [u8])
-        requires { TableAlone (chain_of self.now) self.now.count × HoldsMade self.now strip.old }
+        requires alone { (self.now.count ≡ 1) × IsTable (chain_of self.now) 0 }
+        requires room { HoldsMade self.now strip.old }
         ensures { strip.new ≡ made_in self.now strip.old }
     {
         for y in 0..self.storing.opened.chain.height {
-            let a = 4 * (y * self.width);
-            let b = a + 4 * self.width;
-            self.pack_first(y, &mut strip[a..b]);
+            self.pack_first(y, &mut strip[row_bytes(y, self.width)]);
         }
     }
 }
@@ -44,13 +42,13 @@ impl<'a> Accepted<'a> {
 impl<'a> Storing<'a> {
     // Whether a table is the only record.
     fn table_alone(&self) -> bool
-        ensures { result ≡ true → TableAlone self.now.opened self.now.opened.chain.count }
+        ensures { result ≡ true → (self.now.opened.chain.count ≡ 1) × IsTable self.now.opened 0 }
     {
         self.opened.chain.count == 1 && self.table_first()
     }
 
-    // Test 21, then the rows. A table alone needs no scratch. That the strip has room is asked: a struct around the lent
-    // strip would have to say what of it stays.
+    // Test 21, then the rows. A table alone needs no scratch. That the strip has room is asked here and of the loops
+    // over rows: a struct around the lent strip would have to say what of it stays.
     fn store_strip(&self, strip: &mut [u8]) -> Result<(), Refusal>
         requires { HoldsStrip self.now.opened.chain strip.old }
         ensures { Stored self.now strip.old result strip.new }

@@ -1,7 +1,7 @@
-// What storing a picture has at hand.
+// What storing a picture works by.
 ghost use Rattle.std.specs.Prelude.{◌≡◌, true};
 ghost use Rattle.chain.specs.Valid.{HoldsPicture};
-ghost use Rattle.store.specs.Stage.{IsTable, TableFirst, TableAt, TableFor, Looks};
+ghost use Rattle.store.specs.Stage.{IsTable, TableAt, TableFor, Looks};
 
 use crate::table::Table;
 use chain::record::ValidChain;
@@ -50,12 +50,13 @@ impl<'a> Storing<'a> {
 
     // Whether the first record is a table.
     pub fn table_first(&self) -> bool
-        ensures { result ≡ true → TableFirst self.now.opened }
+        ensures { result ≡ true → IsTable self.now.opened 0 }
     {
         self.table.as_ref().is_some_and(|table| table.at == 0)
     }
 
-    // What finds the entries of record k.
+    // What finds the entries of record k. By its number: `advance` comes to the table from its record alone, and the
+    // others would have to ask, if the `Table` were passed, that it is this chain's.
     pub fn lookup(&self, k: usize) -> &Lookup<'a>
         requires { IsTable self.now.opened k }
         ensures { Looks self.now.opened k result.now }

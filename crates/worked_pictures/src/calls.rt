@@ -6,7 +6,8 @@ use letchwater::{
 };
 use std::io;
 
-// A picture's size, and the chain and data that it is stored by.
+// A picture's size, and the chain and data that it is stored by. `replay` has such a struct too: a program is used by
+// no other, and `letchwater` below both has the calls alone, as the papers list them.
 #[derive(Clone, Copy)]
 pub struct Stored<'a> {
     pub width: u32,

@@ -1,4 +1,5 @@
-// Lines of output: what a call was given, the number that it answered, and the bytes of the buffer that it wrote.
+// Lines of output: what a call was given, the number that it answered, and the bytes of the buffer that it wrote. `rt`
+// and `name` are two parameters: each line has a name of its own, so that every call would have to make a struct first.
 use std::io;
 
 pub fn bytes_line(rt: &impl Print, name: &str, bytes: &[u8]) -> io::Result<()> {

@@ -6,7 +6,7 @@ use Rattle.std.proofs.lemmas.Result.{err_from_is_err_and}
 use Rattle.format.specs.Chain.{width_at}
 use Rattle.format.specs.Refusals.{records_refusal}
 use Rattle.chain.proofs.Tabled.{checked_same, checked_known}
-use Rattle.chain.proofs.Records.{turn, record_refused, record_passed, steps_none, steps_more, width_more, width_fits, all_passed, all_of, all_valid}
+use Rattle.chain.proofs.Records.{turn, record_refused, record_passed, steps_none, steps_more, width_more, width_fits, all_passed, all_valid}
 use Rattle.chain.proofs.Sizes.{whole_chain}
 use Rattle.chain.proofs.read_records.Goals as goal
 
@@ -27,9 +27,13 @@ returns-in_err-steps-clause-refusal c =
     let t = turn _ _ _ _ l.k _ _ _ _ l.invariant.0 l.invariant.1 c.record_at-s.ensures.0 c.used_before.ensures c.check.ensures in
     rw (p.1, p.2) (record_refused _ _ _ _ _ _ _ _ _ t c.in_err-steps.was c.loop-k-test.true ∙ sym (whole_chain _ _ _ _ r.0 r.1 r.2))
 
-pub width_after-current-requires : goal.width_after-current-requires
-width_after-current-requires c =
-    (checked_known _ _ _ _ _ (sym c.check.ensures ∙ c.in_ok-steps.was), width_fits _ c.loop-k.k _ _ _ c.loop-k.invariant.1 c.record_at-s.ensures.0 c.requires.0.narrow)
+pub invariant_of-width_after : goal.invariant_of-width_after
+invariant_of-width_after c =
+    record {
+      known = checked_known _ _ _ _ _ (sym c.check.ensures ∙ c.in_ok-steps.was);
+      narrow = width_fits _ c.loop-k.k _ _ _ c.loop-k.invariant.1 c.record_at-s.ensures.0 c.requires.0.narrow;
+      low = c.requires.0.low;
+    }
 
 pub loop-k-preserved : goal.loop-k-preserved
 loop-k-preserved c =
@@ -50,8 +54,3 @@ invariant_of-result c =
     let l = c.loop-k in
     let r = c.requires in
     record { valid = all_valid _ _ _ _ l.k _ l.invariant.0 l.invariant.3 l.invariant.1 (omega (arith, l.auto.k-end)) refl refl refl (whole_chain _ _ _ _ r.0 r.1 r.2) }
-
-pub returns-clause-read : goal.returns-clause-read
-returns-clause-read c =
-    let l = c.loop-k in
-    record { of = all_of _ _ _ _ l.k _ l.invariant.0 l.invariant.3 l.invariant.1 (omega (arith, l.auto.k-end)) refl refl refl; on = refl }

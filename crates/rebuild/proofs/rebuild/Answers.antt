@@ -1,12 +1,9 @@
 -- `rebuild` meets its contract: before each turn, undoing the records before k makes of the buffer what the call is to
 -- leave.
-use mathlib.Core.Path.{refl, sym}
+use mathlib.Core.Path.{sym}
 use native.Mathlib.Omega.{arith}
 use Rattle.rebuild.proofs.Turns.{undo_turn, room, undo_done}
 use Rattle.rebuild.proofs.rebuild.Goals as goal
-
-pub loop-k-init : goal.loop-k-init
-loop-k-init c = rw c.in_ok-read.ensures.read.of.count refl
 
 pub undo-requires : goal.undo-requires
 undo-requires c =

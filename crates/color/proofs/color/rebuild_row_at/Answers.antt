@@ -10,6 +10,7 @@ pub returns : goal.returns
 returns c =
     let b = c.args.blocks.now in
     let r = c.row.ensures in
-    lent _ _ c.args.y b.width _ _ (rw (r.same.0, r.same.1) at c.make_row.ensures)
+    let e = c.row_bytes.ensures in
+    lent _ _ c.args.y b.width _ _ _ _ e.0 e.1 (rw (r.same.0, r.same.1) at c.make_row.ensures)
     (row_blocks inverse_color b.width b.bits c.args.y b.bytes.now _ r.holds)
     (omega (arith, row_there b.width _ _ c.requires.1))

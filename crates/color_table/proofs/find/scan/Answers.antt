@@ -10,5 +10,5 @@ pub returns : goal.returns
 returns c =
     let e = pixels c.args.entries.now in
     let w = c.args.w in
-    scanned c.args.size e w _
+    scanned _ e w _
     (first_from_Range _ _ _ _ (λ i. equal (e i) w ≡ true) (λ i. equal (e i) w ≡ false) c.find.ensures.ran (λ x q k. search (rules, tests)) (λ x q k. search (rules, tests)))

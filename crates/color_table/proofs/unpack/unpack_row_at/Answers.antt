@@ -6,7 +6,7 @@ use native.Mathlib.Nat.{add-zero}
 use native.Mathlib.Omega.{arith}
 use lib.ListN.{length, take, drop, length-drop}
 use lib.Seq.{length-take-le}
-use Rattle.format.specs.ColorTable.{packed_width, entry}
+use Rattle.format.specs.ColorTable.{entry}
 use Rattle.color_table.proofs.Rows.{rows_before, row_lent}
 use Rattle.color_table.proofs.unpack.unpack_row_at.Goals as goal
 

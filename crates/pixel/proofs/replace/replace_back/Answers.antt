@@ -29,8 +29,3 @@ loop-i-preserved g c =
           let n : j ≡ k → ⊥ = λ e. omega arith in
           rw c.put.ensures (law.get_other _ k j _ n) ∙ l.invariant.kept law j (omega (arith, s));
     }
-
-pub returns : goal.returns
-returns g c law f gives =
-    let e : c.loop-i.i ≡ c.args.from = omega (arith, c.loop-i.invariant.inside) in
-    rw e at (c.loop-i.invariant.replaced law f gives)

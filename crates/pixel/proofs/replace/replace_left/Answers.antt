@@ -1,6 +1,6 @@
 -- `replace_left` meets its contract: before each turn the pixels up to i are replaced, and `left` is the one before i.
 use Rattle.std.proofs.Common.{arith}
-use Rattle.pixel.proofs.Cells.{run_none, run_done}
+use Rattle.pixel.proofs.Cells.{run_none}
 use Rattle.pixel.proofs.Turn.{run_turn, left_next}
 use Rattle.pixel.proofs.replace.replace_left.Goals as goal
 
@@ -17,7 +17,3 @@ loop-i-preserved g c = (
       run_turn h _ _ _ _ _ _ (c.loop-i.invariant.0 h gives) v c.put_pixel.ensures c.loop-i.auto.i),
   left_next _ _ _ _ c.put_pixel.ensures (omega (arith, c.loop-i.auto.xs)),
 )
-
-pub returns : goal.returns
-returns g c h gives =
-    run_done _ h _ _ _ _ _ (c.loop-i.auto.i-end c.requires.inside.1) c.loop-i-test.false (c.loop-i.invariant.0 h gives)

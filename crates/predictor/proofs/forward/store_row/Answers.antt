@@ -2,15 +2,15 @@
 -- row.
 use Rattle.std.proofs.Common.{◌≡◌, ◌≤◌, ◌∙◌, arith}
 use Rattle.format.specs.Picture.{pixels}
-use Rattle.pixel.proofs.Part.{pixels_part}
-use Rattle.predictor.proofs.StoredRows.{stored_row}
+use Rattle.predictor.proofs.StoredRows.{second_row, stored_row}
 use Rattle.predictor.proofs.forward.store_row.Goals as goal
 
 pub returns-then-y-eq0 : goal.returns-then-y-eq0
 returns-then-y-eq0 c =
     λ f above row. let b = c.args.blocks.now in
     let z : c.args.y ≡ 0 = c.if-y-eq0.true in
-    rw z (c.store_first_row.ensures b.bits (pixels b.bytes.now) f (λ x u. pixels_part b.width b.width c.args.rows.now (omega arith) x u ∙ rw z at (row x u)))
+    let e = c.row_bytes.ensures in
+    rw z (c.store_first_row.ensures b.bits (pixels b.bytes.now) f (λ x u. second_row b.width _ _ c.args.rows.now e.0 e.1 (omega arith) x u ∙ rw z at (row x u)))
 
 pub returns-else-y-eq0 : goal.returns-else-y-eq0
 returns-else-y-eq0 c =

@@ -13,8 +13,8 @@ loop-block-init c =
 pub loop-block-preserved : goal.loop-block-preserved
 loop-block-preserved c =
     let b = c.args.blocks.now in
-    let s = c.of.result in
-    let e = c.of.ensures in
+    let s = c.of-segment.result in
+    let e = c.of-segment.ensures in
     let before = rw (← e.from) at c.loop-block.invariant in
-    let turn = rw e.width at c.store_segment.ensures in
+    let turn = rw e.width at c.store.ensures in
     rw e.to at (lost_more b.width b.bits b.bytes.now _ _ _ s.from s.to s.mode e.mode s.inside.1 c.args.rows.now before turn)

@@ -8,6 +8,6 @@ use Rattle.report.proofs.colors.distinct.Goals as goal
 pub returns : goal.returns
 returns c =
     let l = c.args.list.now in
-    let own = Own l.size (pixels l.entries.now) in
-    all_own l.size (pixels l.entries.now) _
-    (cases_from_all _ _ _ own (λ k. own k → ⊥) c.all.ensures.ran (YieldsList-from_range 0 l.size l.size refl (omega arith)) (λ k q r. search (rules, tests)) (λ k q r. search (rules, tests)))
+    let own = Own l.entries.size (pixels l.entries.bytes.now) in
+    all_own l.entries.size (pixels l.entries.bytes.now) _
+    (cases_from_all _ _ _ own (λ k. own k → ⊥) c.all.ensures.ran (YieldsList-from_range 0 l.entries.size l.entries.size refl (omega arith)) (λ k q r. search (rules, tests)) (λ k q r. search (rules, tests)))

@@ -1,5 +1,6 @@
 -- `report` meets its contract: what refuses it is read off its answer, and sums of counts are those of the definition.
-use Rattle.std.proofs.Common.{rules, tests}
+use Rattle.std.proofs.Common.{rules, tests, arith, ◌*◌}
+use Rattle.report.proofs.Counts.{counted_front}
 use Rattle.report.proofs.Answers.{counted}
 use Rattle.report.proofs.report.report.Goals as goal
 
@@ -8,5 +9,6 @@ returns c =
     let l = c.in_ok-list.ensures.list in
     let m = c.counts.ensures in
     let a = c.add_to.ensures in
-    let r = counted _ _ _ _ _ l.list _ (rw (l.entries, l.size) at m.numbers) (search (rules, tests)) (rw (← l.size) (search (rules, tests))) _ _ (rw (m.size, l.size) at a.value) (rw (m.size, l.size) at a.counters_after) in
+    let n = counted_front _ _ (c.args.height * c.args.width) c.args.picture.now _ (omega arith) (rw (l.entries, l.size) at m.numbers) in
+    let r = counted _ _ _ _ _ l.list _ n (search (rules, tests)) (rw (← l.size) (search (rules, tests))) _ _ (rw (m.size, l.size) at a.value) (rw (m.size, l.size) at a.counters_after) in
     record { value = r.0; counters_after = r.1 }

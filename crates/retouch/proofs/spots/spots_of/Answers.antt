@@ -1,23 +1,33 @@
--- `spots_of` meets its contract.
-use mathlib.Core.Path.{refl, sym, ◌∙◌}
+-- `spots_of` meets its contract: after k calls the spots are those after the first k records. A predictor meets one, since
+-- no other was before it.
+use mathlib.Core.List.{[], ◌∷◌}
+use mathlib.Core.Path.{◌≡◌, sym, ◌∙◌}
+use Prim.Native.Nat.{ℕ, ◌<◌}
+use Rattle.std.proofs.Common.{rules}
 use native.Mathlib.Omega.{arith}
+use Rattle.item.specs.declared.painted.Painted.{Painted}
 use Rattle.item.specs.Source.{step_of}
-use Rattle.chain.proofs.Valid.{pixels_few}
+use Rattle.format.specs.Retouch.{spot_records}
+use Rattle.retouch.specs.declared.records.Records.{Records}
+use Rattle.retouch.specs.Spots.{records_of}
+use Rattle.item.proofs.Fold.{fold_asks, fold_gives}
 use Rattle.retouch.proofs.Follow.{first_spot, spots_more, one_taken}
 use Rattle.retouch.proofs.spots.spots_of.Goals as goal
 
-pub loop-k-init : goal.loop-k-init
-loop-k-init c =
-    let p = c.args.painted.now in
-    (first_spot _ _, refl, omega arith, omega (arith, c.requires, pixels_few _ _ p.opened.valid))
+-- the records after the first k of the chain
+abbrev After : Painted → ℕ → Records → Type 0
+After p k s = records_of s ≡ spot_records (step_of p) k (p.point.index ∷ [])
 
-pub followed-spots-requires : goal.followed-spots-requires
-followed-spots-requires c =
-    let p = c.args.painted.now in
-    let i = c.loop-k.invariant in
-    λ e. one_taken (step_of p) _ _ _ _ (λ j l z. p.opened.valid.once j c.loop-k.k l (omega arith) (z ∙ sym (rw c.record.ensures.0 at e))) i.0 (omega arith)
+one_before : (p : Painted) (k : ℕ) (s : Records) → k < p.opened.chain.count → After p k s → (step_of p k).kind ≡ 0 → s.count ≡ 1
+one_before p k s l j e = one_taken (step_of p) _ k _ _ (λ i m z. p.opened.valid.once i k m l (z ∙ sym e)) j (omega (arith, s.full, s.most))
 
-pub loop-k-preserved : goal.loop-k-preserved
-loop-k-preserved c =
-    let s = c.followed-spots.result in
-    (spots_more (step_of c.args.painted.now) _ _ _ _ c.loop-k.invariant.0 (rw c.record.ensures.0 at c.followed-spots.ensures), s.full, s.most, s.low)
+pub fold-requires-clause-callable : goal.fold-requires-clause-callable
+fold-requires-clause-callable c =
+    let p = c.args.painted.now in
+    fold_asks (After p) _ _ (λ k a b f' e. search rules) (λ k a b f' l j e. spots_more (step_of p) _ _ _ _ j (search rules)) _ (first_spot _ _)
+    (λ k s l j. let o = one_before p k s l j in search rules)
+
+pub returns : goal.returns
+returns c =
+    let p = c.args.painted.now in
+    fold_gives (After p) _ _ (λ k a b f' e. search rules) (λ k a b f' l j e. spots_more (step_of p) _ _ _ _ j (search rules)) _ _ (first_spot _ _) c.fold.ensures.ran

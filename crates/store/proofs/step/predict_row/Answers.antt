@@ -1,10 +1,12 @@
 -- `predict_row` meets its contract: the rows that are lent hold the row above and the row.
 use mathlib.Core.Path.{◌∙◌}
+use native.Mathlib.Omega.{arith}
 use borrow.Author.Rules.{rules}
 use Rattle.format.specs.Picture.{pixels}
 use Rattle.format.specs.Predictor.{residuals}
+use Rattle.store.proofs.Lent.{pixel_first}
 use Rattle.store.proofs.Moved.{moved}
-use Rattle.store.proofs.Predicted.{behind, lent_behind, lent_above, back_row}
+use Rattle.store.proofs.Predicted.{both_length, behind, held_behind, held_above, held_first}
 use Rattle.store.proofs.step.predict_row.Goals as goal
 
 pub returns-clause-made : goal.returns-clause-made
@@ -12,13 +14,19 @@ returns-clause-made c =
     λ f h a. let p = c.requires in
     let b = c.args.blocks.now in
     let e = c.copy_from_slice.ensures.after in
-    back_row (residuals b.width b.bits (pixels b.bytes.now) f) c.args.y b.width _ _
-    (c.store_row.ensures f (λ u. lent_above b.width c.args.row.now _ _ e p.1 p.2 c.args.y f (a u))
-    (lent_behind b.width c.args.row.now _ _ e p.1 p.2 c.args.y f h))
-    (search rules) p.1
+    held_first (residuals b.width b.bits (pixels b.bytes.now) f) c.args.y b.width _ _
+    (c.store_row.ensures f (λ u. held_above b.width c.args.row.now c.args.rows.now _ e p.1 p.2 c.args.y f (a u))
+    (held_behind b.width c.args.row.now c.args.rows.now _ e p.1 p.2 c.args.y f h))
+    (search rules)
 
 pub returns-clause-left : goal.returns-clause-left
 returns-clause-left c =
     λ x l. let p = c.requires in
-    moved c.args.blocks.now.width _ _ c.copy_within.ensures.by_index.0 x l
-    ∙ behind c.args.blocks.now.width c.args.row.now _ _ c.copy_from_slice.ensures.after p.1 p.2 x l
+    let w = c.args.blocks.now.width in
+    let row = c.args.row.now in
+    let rows = c.args.rows.now in
+    let e = c.copy_from_slice.ensures.after in
+    let long = both_length w row rows _ e p.1 p.2 in
+    pixel_first _ _ x (omega (arith, c.copy_within.auto.self, long))
+    ∙ moved w _ _ _ c.copy_within.ensures.by_index.0 (omega (arith, long)) x l
+    ∙ behind w row rows _ e p.1 p.2 x l

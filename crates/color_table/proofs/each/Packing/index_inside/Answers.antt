@@ -8,7 +8,7 @@ index-requires g c = entry_there c.args.self.now _ _ c.at.ensures c.requires
 
 pub overflow_cast-result : goal.overflow_cast-result
 overflow_cast-result g c =
-    let m = c.args.self.now.lookup.now.table.most in
+    let m = c.args.self.now.lookup.now.entries.most in
     omega (arith, index_there c.args.self.now _ _ c.at.ensures c.requires)
 
 pub returns : goal.returns

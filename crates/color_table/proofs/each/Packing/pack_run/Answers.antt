@@ -9,14 +9,14 @@ use Rattle.format.specs.Picture.{pixels}
 use Rattle.pixel.proofs.Given.{given_same}
 use Rattle.color_table.specs.declared.each.Packing.{Packing}
 use Rattle.color_table.specs.declared.runs.Last.{Last}
-use Rattle.color_table.specs.Packed.{GroupsOf}
+use Rattle.color_table.specs.Packed.{width_of, GroupsOf}
 use Rattle.color_table.specs.Pack.{LastOf, Filled}
 use Rattle.color_table.proofs.Digits.{base_in}
 use Rattle.color_table.proofs.Records.{groups_whole, record_again, group_next}
 use Rattle.color_table.proofs.each.Packing.pack_run.Goals as goal
 
 -- what was filled is the row's records
-filled : {n : ℕ} (p : Packing n) (last : Last) (r : ℕ) (xs ys : List ℕ) → LastOf p last → 16 * r ≤ p.width → last.groups ≤ r → Filled n last r (pixels p.row.now) xs ys → GroupsOf p last.groups r xs ys
+filled : {n : ℕ} (p : Packing n) (last : Last) (r : ℕ) (xs ys : List ℕ) → LastOf p last → 16 * r ≤ width_of p → last.groups ≤ r → Filled n last r (pixels p.row.now) xs ys → GroupsOf p last.groups r xs ys
 filled {n} p last r xs ys e l o h =
     let base = base_in p in
     let m = groups_whole (16 / n) last.groups r o in

@@ -2,19 +2,16 @@
 use mathlib.Core.Path.{◌≡◌}
 use Prim.Native.Nat.{ℕ, ◌≤◌, ◌*◌, ◌/◌}
 use native.Mathlib.Omega.{arith}
-use Rattle.format.proofs.ColorTable.{per_pixel_pos}
-use Rattle.format.specs.ColorTable.{per_pixel}
 use Rattle.pixel.proofs.Rows.{no_rows}
 use Rattle.color_table.specs.declared.each.Packing.{Packing}
-use Rattle.color_table.specs.Packed.{record_count}
+use Rattle.color_table.specs.Packed.{width_of, record_count}
 use Rattle.color_table.proofs.Digits.{base_in}
-use Rattle.color_table.proofs.Rows.{packed_fewer}
 use Rattle.color_table.proofs.Records.{groups_inside, groups_then}
 use Rattle.color_table.proofs.each.Packing.put_runs.Goals as goal
 
 -- the groups' records are inside the row
-inside : {n : ℕ} (p : Packing n) → p.width / 16 * (16 / n) ≤ record_count p
-inside p = groups_inside _ _ (base_in p).group _ _ _ p.packs.places p.packs.some (omega arith)
+inside : {n : ℕ} (p : Packing n) (w : ℕ) → w ≡ width_of p → w / 16 * (16 / n) ≤ record_count p
+inside p w q = groups_inside _ _ (base_in p).group _ _ _ p.packs.places p.packs.some (omega arith)
 
 pub loop-last-init : goal.loop-last-init
 loop-last-init g c =
@@ -22,7 +19,7 @@ loop-last-init g c =
 
 pub pack_run-last-requires : goal.pack_run-last-requires
 pack_run-last-requires g c =
-    let i = inside c.args.self.now in let l = c.loop-last in (omega arith, ((omega arith, omega arith, omega arith), l.invariant.last))
+    let i = inside c.args.self.now _ c.width-groups.ensures in let l = c.loop-last in (omega arith, ((omega arith, omega arith, omega arith), l.invariant.last))
 
 pub loop-last-preserved : goal.loop-last-preserved
 loop-last-preserved g c =
@@ -33,4 +30,6 @@ loop-last-preserved g c =
 
 pub returns : goal.returns
 returns g c =
-    let z : c.loop-last.last.groups ≡ c.args.self.now.width / 16 = omega arith in (inside c.args.self.now, rw z at c.loop-last.invariant.packed)
+    let w = c.width-groups in
+    let z : c.loop-last.last.groups ≡ w.result.0 / 16 = omega arith in
+    (inside c.args.self.now _ w.ensures, rw z at c.loop-last.invariant.packed)

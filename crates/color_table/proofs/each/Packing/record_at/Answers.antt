@@ -8,4 +8,4 @@ pub returns : goal.returns
 returns g c =
     let p = c.args.self.now in
     let n = g.row.N in
-    record_is p c.args.j _ (c.record.ensures (λ k. index_in_row p (c.args.j * n + k)) (λ k r l post. post.0)) c.requires
+    record_is p c.args.j _ (c.record.ensures (λ k. index_in_row p (c.args.j * n + k)) (λ k r l post. post.0)) c.requires.there

@@ -9,15 +9,15 @@ use Rattle.color_table.proofs.flat.Flat.index.Goals as goal
 
 -- the entries that are compared are all or all but the last
 module _ {n : ℕ} (t : Flat n) where
-  some : (j : ℕ) → j < 1 * 2 ^ (8 / n) % 18446744073709551616 - 1 → j < t.packing.now.lookup.now.size
+  some : (j : ℕ) → j < 1 * 2 ^ (8 / n) % 18446744073709551616 - 1 → j < t.packing.now.lookup.now.entries.size
   some j l =
       let p = t.packing.now in
       let b = base_in p in
       let k = rw (range_shift n b.places) at l in
-      let u = b.pairs p.lookup.now.table.some t.few in
+      let u = b.pairs p.lookup.now.some t.few in
       omega arith
 
-  all : (j : ℕ) → 1 * 2 ^ (8 / n) % 18446744073709551616 - 1 ≤ j → t.packing.now.lookup.now.size ≤ j + 1
+  all : (j : ℕ) → 1 * 2 ^ (8 / n) % 18446744073709551616 - 1 ≤ j → t.packing.now.lookup.now.entries.size ≤ j + 1
   all j l =
       let b = base_in t.packing.now in
       let k = rw (range_shift n b.places) at l in
@@ -26,7 +26,7 @@ module _ {n : ℕ} (t : Flat n) where
 
 pub at-requires : goal.at-requires
 at-requires g c =
-    let t = c.args.self.now.packing.now.lookup.now.table.there in
+    let t = c.args.self.now.packing.now.lookup.now.entries.there in
     omega (arith, some c.args.self.now c.loop-j.j c.loop-j-test.true)
 
 pub loop-j-preserved : goal.loop-j-preserved

@@ -9,5 +9,5 @@ use Rattle.color_table.proofs.flat.Flat.index.Given as goal
 abbrev pub invariant-loop-j : goal.invariant-loop-j
 invariant-loop-j g l =
     let p = l.self.packing.now in
-    let i = index_of p.lookup.now.size (table_of p) l.w in
+    let i = index_of p.lookup.now.entries.size (table_of p) l.w in
     record { passed : l.found ≡ ltb i l.j; counted : l.r ≡ min i l.j }

@@ -8,8 +8,8 @@ use Rattle.color_table.proofs.lookup.Lookup.accept_groups.Given as goal
 
 abbrev pub invariant-loop-g : goal.invariant-loop-g
 invariant-loop-g l =
-    let e = pixels l.self.entries.now in
+    let e = pixels l.self.entries.bytes.now in
     record {
-      before : have_entries l.self.size e (16 * l.g) (pixels l.row) ≡ true;
-      has : has_entry l.self.size e l.a ≡ true;
+      before : have_entries l.self.entries.size e (16 * l.g) (pixels l.row) ≡ true;
+      has : has_entry l.self.entries.size e l.a ≡ true;
     }

@@ -6,4 +6,4 @@ use Rattle.color_table.proofs.lookup.Lookup.first_holds.Goals as goal
 
 pub returns : goal.returns
 returns c t =
-    entry_accepted _ _ _ _ (sym (equal_true _ _ (sym c.eq.ensures ∙ t)) ∙ c.at.ensures) (c.args.self.now.table.hinted.below c.slot.result)
+    entry_accepted _ _ _ _ (sym (equal_true _ _ (sym c.eq.ensures ∙ t)) ∙ c.at.ensures) (c.args.self.now.hinted.below c.slot.result)

@@ -5,4 +5,4 @@ use Rattle.color_table.proofs.unpack.Unpacking+8.put_eights.Given as goal
 
 abbrev pub invariant-loop-k : goal.invariant-loop-k
 invariant-loop-k l =
-    Columns 8 l.self.columns.now l.first (8 * l.k) (8 * l.count - 8 * l.k) l.initial.part l.part
+    Columns 8 l.self.columns.now l.self.first (8 * l.k) (8 * l.count - 8 * l.k) l.initial.part l.part

@@ -11,8 +11,9 @@ use Rattle.color_table.proofs.unpack.Unpacking+8.put_pixel.Goals as goal
 pub returns : goal.returns
 returns c e h =
     let s = c.args in
-    let f = row_of 8 e (pixels s.part.now) s.first in
+    let first = s.self.now.first in
+    let f = row_of 8 e (pixels s.part.now) first in
     let b = c.packed_byte-j.ensures in
-    let high = c.copy_four.ensures f (λ k l. column_of_eight e _ s.first s.k (4 + k) _ _ _ _ h b.0 b.1 (omega arith) (omega arith) (omega arith)) in
-    let low = c.copy_four-2.ensures f (λ k l. column_of_eight e _ s.first s.k k _ _ _ _ h b.0 b.1 (omega arith) (omega arith) (omega arith)) in
-    low ∙ rw high (given_before f 4 (s.first + 8 * s.k) 4 s.part.now)
+    let high = c.copy_four.ensures f (λ k l. column_of_eight e _ first s.k (4 + k) _ _ _ _ h b.0 b.1 (omega arith) (omega arith) (omega arith)) in
+    let low = c.copy_four-2.ensures f (λ k l. column_of_eight e _ first s.k k _ _ _ _ h b.0 b.1 (omega arith) (omega arith) (omega arith)) in
+    low ∙ rw high (given_before f 4 (first + 8 * s.k) 4 s.part.now)

@@ -5,4 +5,4 @@ use Rattle.color_table.proofs.unpack.Unpacking.put_fours.Given as goal
 
 abbrev pub invariant-loop-k : goal.invariant-loop-k
 invariant-loop-k g l =
-    Columns g.row.N l.self.columns.now l.first (4 * l.k) (4 * l.count - 4 * l.k) l.initial.part l.part
+    Columns g.row.N l.self.columns.now l.self.first (4 * l.k) (4 * l.count - 4 * l.k) l.initial.part l.part

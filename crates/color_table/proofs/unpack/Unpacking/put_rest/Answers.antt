@@ -13,7 +13,7 @@ pub returns : goal.returns
 returns g c e h =
     let n = g.row.N in
     let s = c.args in
-    let z : s.first + s.width - (s.first + s.from) ≡ s.width - s.from = omega arith in
-    rw z at (c.replace_back.ensures pixel_lawful (row_of n e (pixels s.part.now) s.first) (λ ys i v len a b before post.
-    let m : s.first + (i - s.first) ≡ i = omega arith in
-    rw m at (post e h) ∙ row_same n e (pixels ys.now) (pixels s.part.now) s.first i (before ((i - s.first) / n) (omega (arith, div-le_self (i - s.first) n)))))
+    let first = s.self.now.first in
+    let z : first + s.width - (first + s.from) ≡ s.width - s.from = omega arith in
+    rw z at (c.replace_back.ensures pixel_lawful (row_of n e (pixels s.part.now) first) (λ ys i v len a b before post.
+    post e h ∙ row_same n e (pixels ys.now) (pixels s.part.now) first i (before ((i - first) / n) (omega (arith, div-le_self (i - first) n)))))

@@ -4,12 +4,6 @@ use Rattle.format.specs.Picture.{block}
 use Rattle.pixel.proofs.Blocks.{block_there}
 use Rattle.pixel.proofs.block.Blocks.at.Goals as goal
 
-pub at-requires : goal.at-requires
-at-requires c =
-    let s = c.args.self.now in
-    let e = c.row.ensures.same in
-    rw (e.0, e.1) (block_there s.width s.bits c.args.x c.requires.0)
-
 pub returns : goal.returns
 unfolding block
 returns c =

@@ -7,4 +7,6 @@ pub slice_bounds-result-end : goal.slice_bounds-result-end
 slice_bounds-result-end c = omega (arith, data_there _ _ _ _ _ c.args.self.now.there c.requires _ c.subsample_size-columns.ensures)
 
 pub returns-clause-holds : goal.returns-clause-holds
-returns-clause-holds c = data-part _ _ _ _ _ c.args.self.now.there c.requires _ c.subsample_size-columns.ensures
+returns-clause-holds c =
+    let e = c.row_bytes.ensures in
+    rw (e.1, e.0) (data-part _ _ _ _ _ c.args.self.now.there c.requires _ c.subsample_size-columns.ensures)

@@ -1,6 +1,7 @@
-use Rattle.pixel.specs.Word.{unword}
+use Rattle.std.proofs.Common.{sym}
+use Rattle.format.specs.Picture.{pixels}
 use Rattle.pixel.proofs.word.PixelFromWord.from.Goals as goal
 
 pub returns : goal.returns
-unfolding unword
-returns c = rw (c.to_le_bytes.ensures, ← c.w.view_is)
+unfolding pixels
+returns c = sym c.from.ensures

@@ -7,4 +7,4 @@ use Rattle.report.proofs.count.Counting.counts.Goals as goal
 pub loop-i-init : goal.loop-i-init
 loop-i-init c =
     let t = c.args.self.now in
-    (record { inside = omega arith; group = λ l. omega arith }, record { size = omega arith; numbers = counted_none _ (pixels t.list.now.entries.now) (pixels t.picture.now) t.list.now.table.most })
+    (record { inside = omega arith; group = λ l. omega arith }, record { size = omega arith; numbers = counted_none _ (pixels t.list.now.entries.bytes.now) (pixels t.picture.now) t.list.now.entries.most })

@@ -1,6 +1,7 @@
--- `each` meets its contract: before each turn the pixels before i are counted.
+-- `each` meets its contract: before each turn the pixels before it are counted.
+use Rattle.std.proofs.Common.{◌+◌}
 use Rattle.report.specs.Counting.{CountedIn}
 use Rattle.report.proofs.count.Counting.each.Given as goal
 
-abbrev pub invariant-loop-i : goal.invariant-loop-i
-invariant-loop-i l = CountedIn l.self l.i l.counts
+abbrev pub invariant-loop-pixel : goal.invariant-loop-pixel
+invariant-loop-pixel l = CountedIn l.self (l.from + l.pixel-index) l.counts

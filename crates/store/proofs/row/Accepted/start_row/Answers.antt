@@ -4,10 +4,10 @@ use mathlib.Core.Path.{ap, ◌∙◌}
 use Prim.Native.Nat.{ℕ}
 use native.Mathlib.Omega.{arith}
 use lib.ListN.{length}
-use Rattle.format.specs.Picture.{pixels}
+use Rattle.format.proofs.Written.{pixels_same}
 use Rattle.chain.proofs.Valid.{after_fits}
 use Rattle.store.specs.Made.{chain_of}
-use Rattle.store.proofs.Lent.{front_back}
+use Rattle.store.proofs.Lent.{pixel_first}
 use Rattle.store.proofs.Stages.{started_none}
 use Rattle.store.proofs.row.Accepted.start_row.Goals as goal
 
@@ -26,6 +26,6 @@ returns c =
     let n = (chain_of a).valid.sized.narrow in
     let o = c.requires.1 in
     started_none a _ _
-    (λ x l. front_back (length c.picture_row-from.result.now) c.args.row.now z x (ap (λ (ys : List ℕ). length ys) e ∙ omega arith) (omega arith) (omega arith)
-    ∙ ap (λ (ys : List ℕ). pixels ys x) e
+    (λ x l. pixel_first z _ x (let full = ap (λ (ys : List ℕ). length ys) e in omega arith)
+    ∙ pixels_same e x
     ∙ r.0 x l)

@@ -4,7 +4,7 @@ use mathlib.Core.Path.{ap, ◌∙◌}
 use Prim.Native.Nat.{ℕ}
 use native.Mathlib.Omega.{arith}
 use lib.ListN.{length}
-use Rattle.format.specs.Picture.{pixels}
+use Rattle.format.proofs.Written.{pixels_same}
 use Rattle.pixel.proofs.Rows.{no_rows}
 use Rattle.store.proofs.Copied.{stage_narrow, row_done, all_done}
 use Rattle.store.proofs.Stages.{above_first, above_row}
@@ -21,8 +21,8 @@ loop-y-preserved c =
     let l = c.loop-y in
     let e = c.copy_from_slice.ensures.after in
     let full = ap (λ (ys : List ℕ). length ys) e ∙ c.front.ensures.0 in (
-      row_done c.args.self.now l.y _ l.strip l.auto.strip c.requires _ c.loop-y-test.true l.invariant.0 full
-          (λ x u. ap (λ (ys : List ℕ). pixels ys x) e ∙ c.front.ensures.1 x u ∙ c.make_row.ensures.made x u),
+      row_done c.args.self.now l.y _ l.strip l.auto.strip c.requires _ _ c.row_bytes.ensures.0 c.row_bytes.ensures.1 _ c.loop-y-test.true l.invariant.0 full
+          (λ x u. pixels_same e x ∙ c.front.ensures.1 x u ∙ c.make_row.ensures.made x u),
       above_row c.args.self.now l.y _ c.make_row.ensures.left,
     )
 

@@ -1,7 +1,9 @@
 -- `accept_rows` meets its contract: before each turn each pixel of the rows before y has an entry, and the row above is
 -- at hand.
 use mathlib.Core.Path.{◌≡◌, sym, ◌∙◌}
+use Prim.Native.Nat.{◌/◌}
 use native.Mathlib.Omega.{arith}
+use lib.ListN.{length}
 use Rattle.format.specs.Picture.{pixels}
 use Rattle.store.specs.Made.{stage}
 use Rattle.store.proofs.Copied.{stage_narrow, held_same, entries_more, entries_not}
@@ -20,15 +22,17 @@ returns-then-not-accept c =
     let a = c.accepted_by-before.result in
     let y = c.loop-y.y in
     let h = held_same (stage a a.count) y a.width _ _ c.front.ensures.1 c.make_row.ensures.made in
+    let q : length c.front.result.now / 4 ≡ a.width = omega (arith, c.front.ensures.0) in
     table_decides c.args.self.now a _ _ c.accepted_by-before.ensures c.requires c.lookup-lookup.ensures _
-    (entries_not _ a.width _ y _ _ _ h (sym c.accept.ensures ∙ c.if-not-accept.true) c.loop-y-test.true)
+    (entries_not _ a.width _ y _ _ _ h (sym (rw q at c.accept.ensures) ∙ c.if-not-accept.true) c.loop-y-test.true)
 
 pub loop-y-preserved : goal.loop-y-preserved
 loop-y-preserved c =
     let a = c.accepted_by-before.result in
     let l = c.loop-y in
     let h = held_same (stage a a.count) l.y a.width _ _ c.front.ensures.1 c.make_row.ensures.made in
-    (entries_more _ a.width l.y _ _ _ l.invariant.0 h (sym c.accept.ensures ∙ c.if-not-accept.false), above_row a l.y _ c.make_row.ensures.left)
+    let q : length c.front.result.now / 4 ≡ a.width = omega (arith, c.front.ensures.0) in
+    (entries_more _ a.width l.y _ _ _ l.invariant.0 h (sym (rw q at c.accept.ensures) ∙ c.if-not-accept.false), above_row a l.y _ c.make_row.ensures.left)
 
 pub returns : goal.returns
 returns c =

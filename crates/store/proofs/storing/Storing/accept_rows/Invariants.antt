@@ -10,5 +10,5 @@ use Rattle.store.proofs.storing.Storing.accept_rows.Given as goal
 
 abbrev pub invariant-loop-y : goal.invariant-loop-y
 invariant-loop-y l =
-    (have_entries l.lookup.size (pixels l.lookup.entries.now) (l.y * l.before.width) (stage l.before l.before.count) ≡ true)
+    (have_entries l.lookup.entries.size (pixels l.lookup.entries.bytes.now) (l.y * l.before.width) (stage l.before l.before.count) ≡ true)
     × Above l.before 0 l.y l.scratch.rows

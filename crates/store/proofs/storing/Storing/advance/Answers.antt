@@ -2,14 +2,15 @@
 use mathlib.Core.Path.{refl, ◌∙◌}
 use native.Mathlib.Omega.{arith}
 use Rattle.pixel.proofs.Part.{pixel_before}
-use Rattle.store.proofs.Lent.{lent_length, back_length}
+use Rattle.std.proofs.lemmas.List.Edits.{length-between}
+use Rattle.store.proofs.Lent.{back_length}
 use Rattle.store.proofs.Advance.{advanced_0, advanced_1, advanced_2, advanced_3}
 use Rattle.store.proofs.storing.Storing.advance.Goals as goal
 
 pub invariant_of-scratch-in-ColorTable : goal.invariant_of-scratch-in-ColorTable
 invariant_of-scratch-in-ColorTable c =
     let s = c.args.scratch.now in
-    let free = lent_length 65536 131072 s.rows (omega arith) (omega (arith, s.two)) in
+    let free = length-between s.rows 65536 131072 (omega (arith, s.two)) in
     record {
       one = c.pack_accepted.auto.row ∙ s.one;
       two = back_length 65536 65536 s.rows c.pack_accepted.new.free (omega (arith, s.two)) (c.pack_accepted.auto.free ∙ free) ∙ s.two;

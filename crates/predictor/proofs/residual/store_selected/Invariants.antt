@@ -1,7 +1,0 @@
--- `store_selected` meets its contract: before each turn the columns up to x are stored.
-use Rattle.std.proofs.Common.{◌≡◌}
-use Rattle.predictor.specs.Row.{segment_lost}
-use Rattle.predictor.proofs.residual.store_selected.Given as goal
-
-abbrev pub invariant-loop-x : goal.invariant-loop-x
-invariant-loop-x l = l.out ≡ segment_lost 11 l.w l.fn.segment.from l.x l.rows l.initial.out

@@ -4,6 +4,7 @@ use mathlib.Core.List.{List, [], ◌∷◌, map}
 use mathlib.Core.Path.{◌≡◌, refl, sym, ap, ◌∙◌}
 use Prim.Native.Nat.{ℕ, suc, ◌+◌, ◌-◌, ◌*◌, ◌/◌, ◌<◌, ◌≤◌}
 use native.Mathlib.Nat.{add-zero, mul_assoc, mul_comm, one-mul, mod-eq_of_lt, div-eq_of_lt, mul-le-mul_right, suc-mul, add-mul, le-div_iff_mul-le, mul-le-mul_left, div-le_self, div-mul-le_self}
+use native.Mathlib.Decide.{ℕ_discrete}
 use native.Mathlib.Omega.{arith}
 use lib.ListN.{get_or, get_or-map}
 use Rattle.format.specs.declared.Pixel.{Pixel}
@@ -44,14 +45,18 @@ module _ {n : ℕ} (p : Packing n) (x : ℕ) (v : Pixel) (at : v ≡ pixels p.ro
       let l = index_there in
       (at_column p.lookup.now.entries.size (table_of p) (pixels p.row.now) (width_of p) x r v q at inside, omega arith)
 
--- past the end of the row p stands the index of its last column
-pub index_past : {n : ℕ} (p : Packing n) (x : ℕ) → width_of p ≤ x → index_in_row p (width_of p - 1) ≡ index_in_row p x
-index_past p x l =
-    let w = width_of p in
-    let t = table_of p in
-    let f = pixels p.row.now in
-    let some = p.packs.wide in
-    index_inside w p.lookup.now.entries.size t f 0 (w - 1) (omega arith) ∙ sym (index_last w p.lookup.now.entries.size t f 0 x l)
+-- from its last column on, past its end too, the row p has the index of its last column
+pub index_past : {n : ℕ} (p : Packing n) (last x : ℕ) → last < width_of p → width_of p ≤ last + 1 → last ≤ x → index_in_row p last ≡ index_in_row p x
+index_past p last x l u o = go (ℕ_discrete x last)
+  where
+    go : Dec (x ≡ last) → index_in_row p last ≡ index_in_row p x
+    go (yes e) = rw e refl
+    go (no m) =
+        let w = width_of p in
+        let t = table_of p in
+        let f = pixels p.row.now in
+        let q : last ≡ w - 1 = omega arith in
+        index_inside w p.lookup.now.entries.size t f 0 last l ∙ rw q (sym (index_last w p.lookup.now.entries.size t f 0 x (omega arith)))
 
 -- records of whole columns, over any width
 pub whole_records : (w n size j : ℕ) → n ≡ per_pixel size → 1 ≤ n → j * n ≤ w → j ≤ packed_width size w

@@ -54,36 +54,59 @@ impl<'a, const N: usize> Packing<'a, N> {
         self.lookup.index(Word::at(row, x)) as u32
     }
 
-    // The index at position x: its column's or, past the row's end, the last column's. Where all positions are INSIDE,
-    // none is tested for the row's end; so in the functions below.
+    // Record j, all of whose positions are inside the row.
     #[inline(always)]
-    fn index_at<const INSIDE: bool>(&self, x: usize) -> u32
-        requires { INSIDE ≡ true → x < width_of self.now }
-        ensures { (result ≡ index_in_row self.now x) × (result < range N) }
+    fn whole_record(&self, j: usize) -> Word
+        requires { (j + 1) * N ≤ width_of self.now }
+        ensures { result ≡ record_of self.now j }
     {
-        // By `|` the proof has what both tests say; by `||` it would have to take them apart.
-        if INSIDE | (x < self.width().0) {
-            self.index_inside(x)
-        } else {
-            self.index_inside(self.width().0 - 1)
-        }
+        let a = j * N;
+        self.record(
+            |k: usize|
+                requires { a + k < width_of self.now }
+                ensures { (result ≡ index_in_row self.entry.now (a + k)) × (result < range N) }
+            { self.index_inside(a + k) },
+        )
     }
 
-    // Record j.
+    // Record j where positions lie past the row's end: they have the index of the last column, which is looked up once
+    // for all of them.
+    #[inline(always)]
+    fn last_record(&self, j: usize) -> Word
+        requires { (j < record_count self.now) × (width_of self.now < (j + 1) * N) }
+        ensures { result ≡ record_of self.now j }
+    {
+        let a = j * N;
+        let end = self.width().0 - 1;
+        let last = self.index_inside(end);
+        self.record(
+            |k: usize|
+                requires room { (a + k ≤ 32768) × (end < width_of self.now) × (width_of self.now ≤ end + 1) }
+                requires last { (last ≡ index_in_row self.now end) × (last < range N) }
+                ensures { (result ≡ index_in_row self.entry.now (a + k)) × (result < range N) }
+            {
+                if a + k < end {
+                    self.index_inside(a + k)
+                } else {
+                    last
+                }
+            },
+        )
+    }
+
+    // Record j. Where all positions are INSIDE, the row's end is not tested; so in the functions below.
     #[inline(always)]
     fn record_at<const INSIDE: bool>(&self, j: usize) -> Word
         requires there { j < record_count self.now }
         requires inside { INSIDE ≡ true → (j + 1) * N ≤ width_of self.now }
         ensures { result ≡ record_of self.now j }
     {
-        let a = j * N;
-        self.record(
-            |k: usize|
-                requires room { a + k ≤ 32768 }
-                requires inside { INSIDE ≡ true → a + k < width_of self.now }
-                ensures { (result ≡ index_in_row self.entry.now (a + k)) × (result < range N) }
-            { self.index_at::<INSIDE>(a + k) },
-        )
+        // By `|` the proof has what both tests say; by `||` it would have to take them apart.
+        if INSIDE | ((j + 1) * N <= self.width().0) {
+            self.whole_record(j)
+        } else {
+            self.last_record(j)
+        }
     }
 
     // Records `from` up to `to`. That `out` has room is asked here and wherever a row is packed: a struct around it

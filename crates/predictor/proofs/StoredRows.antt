@@ -4,11 +4,12 @@ use native.Mathlib.Decide.{dec_lt}
 use Rattle.format.specs.declared.Pixel.{Pixel}
 use Rattle.format.specs.Byte.{sub}
 use Rattle.format.specs.Pixel.{each, black}
-use Rattle.format.specs.Picture.{Picture, pixels, ceiling}
+use Rattle.format.specs.Picture.{Picture, byte_at, pixels, ceiling}
 use Rattle.format.specs.Predictor.{residuals}
 use Rattle.format.proofs.Predictor.{row_above}
-use Rattle.pixel.specs.Cells.{pixel_cells, put_pixel, run, given}
+use Rattle.pixel.specs.Cells.{byte_cells, pixel_cells, put_pixel, run, given}
 use Rattle.pixel.specs.Held.{HoldsRow}
+use Rattle.pixel.proofs.Channels.{Channels, pixels_bytes}
 use Rattle.pixel.proofs.Held.{held_run}
 use Rattle.pixel.proofs.Part.{pixels_part}
 use Rattle.pixel.proofs.Rows.{run_then}
@@ -25,6 +26,19 @@ second_row w a b rows start end two x u =
     let e : b ≡ 4 * w + 4 * w = omega arith in
     rw (e, s) (pixels_part w w rows (omega arith) x u)
 
+-- what byte i loses off the first pixel
+abbrev pub left_lost : List ℕ → ℕ → ℕ
+left_lost row i = sub (byte_at row i) (byte_at row (i - 4))
+
+left-channels : (row : List ℕ) (x : ℕ) → 1 ≤ x → (zs : List ℕ) → Channels (given (left_lost row)) zs x (each sub (pixels row x) (pixels row (x - 1)))
+unfolding given each pixels
+left-channels row x l zs =
+    let r : 4 * x - 4 ≡ 4 * (x - 1) = omega arith in
+    let g : 4 * x + 1 - 4 ≡ 4 * (x - 1) + 1 = omega arith in
+    let b : 4 * x + 2 - 4 ≡ 4 * (x - 1) + 2 = omega arith in
+    let a : 4 * x + 3 - 4 ≡ 4 * (x - 1) + 3 = omega arith in
+    record { red = rw r; green = λ ys before after. rw g; blue = λ ys before after. rw b; alpha = λ ys before after. rw a }
+
 module _ (w bits : ℕ) (D f : Picture) (row : List ℕ) (wide : 1 ≤ w) (holds : HoldsRow f 0 w row) where
   at : (x : ℕ) → x < w → pixels row x ≡ f x
   at x u = holds x u ∙ rw (zero-mul, zero-add)
@@ -32,6 +46,12 @@ module _ (w bits : ℕ) (D f : Picture) (row : List ℕ) (wide : 1 ≤ w) (holds
   pub lost_left : (x : ℕ) → 1 ≤ x → x < w → each sub (pixels row x) (pixels row (x - 1)) ≡ residuals w bits D f x
   unfolding residuals
   lost_left x l u = cc (at x u, at (x - 1) (omega arith), predicted_left w bits D f x l u)
+
+  pub lost_bytes : (xs ys : List ℕ) → ys ≡ run byte_cells (given (left_lost row)) 4 (4 * w - 4) xs → ys ≡ run pixel_cells (given (residuals w bits D f)) 1 (w - 1) xs
+  unfolding given
+  lost_bytes xs ys e =
+      let k : 4 * w - 4 ≡ 4 * (w - 1) = omega arith in
+      e ∙ rw k (pixels_bytes (given (left_lost row)) (given (residuals w bits D f)) 1 xs (w - 1) (λ x l u zs n. rw (← lost_left x l (omega arith)) (left-channels row x l zs)))
 
   pub stored_first_row : (xs ys zs : List ℕ) (v : Pixel) → ys ≡ put_pixel xs 0 v → v ≡ each sub (pixels row 0) black → zs ≡ run pixel_cells (given (residuals w bits D f)) 1 (w - 1) ys
       → 4 * w ≤ length xs → HoldsRow (residuals w bits D f) 0 w zs

@@ -16,7 +16,12 @@ fn store_first_row(row: &[u8], out: &mut [u8], width: usize)
 {
     let first = subtract_pixels(pixel_at(row, 0), BLACK);
     put_pixel(out, 0, first);
-    fill(out, 4, 4 * width, |i: usize| row[i].wrapping_sub(row[i - 4]));
+    fill(
+        out,
+        4,
+        4 * width,
+        |i: usize| row[i].wrapping_sub(row[i - 4]),
+    );
 }
 
 // Row y, out of `rows`, which holds the row above and then the row. Where y is 0 there is no row above, and the first

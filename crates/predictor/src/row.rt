@@ -7,7 +7,8 @@ use crate::segment::{Segment, rebuild_segment};
 use pixel::block::BlockRow;
 use pixel::pixel::{add_pixels, pixel_at, put_pixel, subtract_pixels};
 
-// Column 0 is predicted as T, the others by the modes of their blocks.
+// Column 0 is predicted as T, the others by the modes of their blocks. A row of one column is done by then: to find its
+// block's segment, which is empty, takes longer than to rebuild it.
 pub fn rebuild_row(rows: &mut [u8], blocks: &BlockRow)
     requires { length rows.old ≡ 8 * blocks.now.width }
     ensures { rows.new
@@ -16,6 +17,9 @@ pub fn rebuild_row(rows: &mut [u8], blocks: &BlockRow)
     let w = blocks.width;
     let first = add_pixels(pixel_at(rows, w), pixel_at(rows, 0));
     put_pixel(rows, w, first);
+    if w == 1 {
+        return;
+    }
     for block in 0..blocks.count() {
         rebuild_segment(rows, Segment::of(blocks, block));
     }
@@ -31,6 +35,9 @@ pub fn store_row(rows: &[u8], out: &mut [u8], blocks: &BlockRow)
     let w = blocks.width;
     let first = subtract_pixels(pixel_at(rows, w), pixel_at(rows, 0));
     put_pixel(out, 0, first);
+    if w == 1 {
+        return;
+    }
     for block in 0..blocks.count() {
         let segment = Segment::of(blocks, block);
         Residuals { rows, segment }.store(out);

@@ -1,8 +1,14 @@
 -- `rebuild_row` meets its contract: before each turn column 0 and the columns of the blocks before are rebuilt.
-use Rattle.std.proofs.Common.{◌≡◌, ◌∙◌, arith}
-use Rattle.predictor.specs.Row.{segment_start}
+use Rattle.std.proofs.Common.{◌≡◌, sym, ap, ◌∙◌, arith}
+use Rattle.predictor.specs.Row.{front_gained, segment_start}
 use Rattle.predictor.proofs.Blocks.{gained_one, gained_more}
 use Rattle.predictor.proofs.row.rebuild_row.Goals as goal
+
+pub returns-then-w-eq1 : goal.returns-then-w-eq1
+returns-then-w-eq1 c =
+    let b = c.args.blocks.now in
+    gained_one b.width b.bits b.bytes.now c.args.rows.now _ _ _ c.put_pixel.ensures (c.add_pixels-first.ensures ∙ cc)
+    ∙ ap (λ n. front_gained b.width b.bits b.bytes.now n c.args.rows.now) (sym c.if-w-eq1.true)
 
 pub loop-block-init : goal.loop-block-init
 loop-block-init c =

@@ -1,8 +1,14 @@
 -- `store_row` meets its contract: before each turn column 0 and the columns of the blocks before are stored.
-use Rattle.std.proofs.Common.{◌≡◌, ◌∙◌, arith}
-use Rattle.predictor.specs.Row.{segment_start}
+use Rattle.std.proofs.Common.{◌≡◌, sym, ap, ◌∙◌, arith}
+use Rattle.predictor.specs.Row.{front_lost, segment_start}
 use Rattle.predictor.proofs.Blocks.{lost_one, lost_more}
 use Rattle.predictor.proofs.row.store_row.Goals as goal
+
+pub returns-then-w-eq1 : goal.returns-then-w-eq1
+returns-then-w-eq1 c =
+    let b = c.args.blocks.now in
+    lost_one b.width b.bits b.bytes.now c.args.out.now _ _ c.args.rows.now _ c.put_pixel.ensures (c.subtract_pixels-first.ensures ∙ cc)
+    ∙ ap (λ n. front_lost b.width b.bits b.bytes.now n c.args.rows.now c.args.out.now) (sym c.if-w-eq1.true)
 
 pub loop-block-init : goal.loop-block-init
 loop-block-init c =

@@ -1,7 +1,7 @@
 // Blocks: 2^bits columns and rows share a data pixel.
 ghost use Rattle.std.specs.Prelude.{◌≡◌, ◌/◌, ◌^◌, ◌<◌, ◌≤◌};
 ghost use Rattle.format.specs.Picture.{pixels, ceiling, block};
-ghost use Rattle.format.specs.Sizes.{Sized, Blocked};
+ghost use Rattle.format.specs.Sizes.{Blocked};
 ghost use Rattle.pixel.specs.Blocks.{BlockedRow, block_start};
 ghost use Rattle.pixel.specs.Held.{HoldsRow};
 
@@ -74,7 +74,7 @@ pub struct Blocks<'a> {
     pub height: usize,
     pub bits: u32,
     pub bytes: &'a [u8],
-    pub ghost sized: { Sized width height },
+    pub ghost sized: { (1 ≤ width) × (width ≤ 16384) },
     pub ghost there: { Blocked width height bits bytes.now },
 }
 

@@ -17,12 +17,12 @@ fn side(bits: u32) -> usize
     1usize << bits
 }
 
-// How many blocks cover `size` columns or rows.
+// How many blocks cover `size` columns or rows. By `div_ceil` the remainder is worked out too.
 pub fn subsample_size(size: usize, bits: u32) -> usize
     requires { (size ≤ 16384) × (bits ≤ 9) }
     ensures { result ≡ ceiling size (2 ^ bits) }
 {
-    size.div_ceil(side(bits))
+    (size + side(bits) - 1) >> bits
 }
 
 // The first column of block k of a row; the row's end past the last block.

@@ -1,6 +1,6 @@
 // Calls of `letchwater` beside the oracle's answers.
 use crate::case::u32_at;
-use crate::comparison::Compared;
+use crate::comparison::{Compared, both};
 use crate::failure::Failure;
 use format::Refusal;
 use letchwater::number;
@@ -31,22 +31,29 @@ impl Answer {
     }
 }
 
-// Calls in turn, each of which follows in the list in 16 bytes: what `call` takes, then the oracle's answer.
+// Calls in turn, each of which follows in the list in 16 bytes: what `call` takes, then the oracle's answer. None where
+// one is malformed.
 pub fn replay_calls<R: Read, F: FnMut(&mut R, &[u8; 16]) -> Result<Answer, Failure>>(
     list: &mut R,
     calls: u8,
     mut call: F,
-) -> Result<Compared, Failure>
+) -> Result<Option<Compared>, Failure>
     requires { F.IsAlwaysCallable call }
 {
-    let mut so_far = Compared {
+    let mut so_far = Some(Compared {
         same: true,
         refused: false,
-    };
+    });
     for _ in 0..calls {
         let mut bytes = [0u8; 16];
-        list.read_exact(&mut bytes)?;
-        so_far = so_far.and(call(list, &bytes)?.compare(u32_at(&bytes, 12)));
+        let answer = match list.read_exact(&mut bytes) {
+            Ok(()) => call(list, &bytes),
+            Err(error) => Err(error.into()),
+        };
+        so_far = both(
+            so_far,
+            answer.map(|answer: Answer| answer.compare(u32_at(&bytes, 12))),
+        )?;
     }
     Ok(so_far)
 }

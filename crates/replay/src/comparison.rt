@@ -1,4 +1,5 @@
 // What comparing a case found.
+use crate::failure::Failure;
 
 // Of calls beside the oracle's: whether they gave the same, and whether one refused.
 #[derive(Clone, Copy)]
@@ -22,6 +23,19 @@ impl Compared {
             same: self.same & next.same,
             refused: self.refused | next.refused,
         }
+    }
+}
+
+// Of calls and parts in turn: none once one is malformed. What follows it in the list is read all the same, unless
+// reading fails.
+pub fn both(
+    so_far: Option<Compared>,
+    next: Result<Compared, Failure>,
+) -> Result<Option<Compared>, Failure> {
+    match next {
+        Ok(next) => Ok(so_far.map(|so_far| so_far.and(next))),
+        Err(Failure::Malformed) => Ok(None),
+        Err(error) => Err(error),
     }
 }
 

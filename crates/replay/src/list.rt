@@ -1,7 +1,7 @@
 // The list, case by case: a header, then its parts, each of at most 16384 bytes.
 use crate::calls::{Answer, replay_calls};
 use crate::case::{Call, Kind, OnChain, Reports, Retouches, Single};
-use crate::comparison::{Compared, Comparison};
+use crate::comparison::{Compared, Comparison, both};
 use crate::failure::Failure;
 use crate::parts::{MOST, compare_part, front, part};
 use crate::reports::report;
@@ -147,8 +147,8 @@ fn replay_retouches(list: &mut impl Read, c: Retouches) -> Result<Compared, Fail
         strip,
     };
     let answers = replay_calls(list, c.calls, |_, call| Ok(retouched.retouch(call)))?;
-    let with_picture = answers.and(compare_part(list, retouched.picture)?);
-    Ok(with_picture.and(compare_part(list, retouched.strip)?))
+    let with_picture = both(answers, compare_part(list, retouched.picture))?;
+    both(with_picture, compare_part(list, retouched.strip))?.ok_or(Failure::Malformed)
 }
 
 // A list of reports: its answers, and the counters that it leaves.
@@ -162,7 +162,7 @@ fn replay_reports(list: &mut impl Read, c: Reports) -> Result<Compared, Failure>
         c.calls,
         |list, call| report(list, call, colors, counters),
     )?;
-    Ok(answers.and(compare_part(list, counters)?))
+    both(answers, compare_part(list, counters))?.ok_or(Failure::Malformed)
 }
 
 // The next case; none at the list's end.

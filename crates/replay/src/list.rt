@@ -11,9 +11,11 @@ use crate::stored::Stored;
 use crate::transforms::Transform;
 use std::io::{BufRead, Read};
 
-// Data, input and output of a transform by itself, and two buffers for the work.
+// Buffers for the parts of a case, and two for the work: the same for all cases, since what is looked at in them was
+// read or filled before.
 #[derive(Clone, Copy)]
-struct Work {
+pub struct Buffers {
+    chain: [u8; MOST],
     data: [u8; MOST],
     input: [u8; MOST],
     output: [u8; MOST],
@@ -21,20 +23,21 @@ struct Work {
     strip: [u8; MOST],
 }
 
-impl Work {
-    // What stands in the buffers for the work must not matter, so it is not zero.
-    fn new() -> Work {
-        Work {
+impl Buffers {
+    pub fn new() -> Buffers {
+        Buffers {
+            chain: [0; MOST],
             data: [0; MOST],
             input: [0; MOST],
             output: [0; MOST],
-            image: [165; MOST],
-            strip: [165; MOST],
+            image: [0; MOST],
+            strip: [0; MOST],
         }
     }
 
-    // Data, input and output as they follow in the list.
-    fn read<'a>(
+    // Data, input and output of a transform by itself, as they follow in the list. What stands in the buffers for the
+    // work must not matter, so it is not zero.
+    fn read_single<'a>(
         &'a mut self,
         list: &mut impl Read,
         c: &'a Single,
@@ -44,7 +47,9 @@ impl Work {
         let input = part(list, &mut self.input, c.input_len)?;
         let output = part(list, &mut self.output, len)?;
         let image = front(&mut self.image, len)?;
+        image.fill(165);
         let strip = front(&mut self.strip, len)?;
+        strip.fill(165);
         let stored = Stored {
             width: c.width,
             height: c.height,
@@ -59,48 +64,9 @@ impl Work {
             strip,
         })
     }
-}
 
-// A function for each way to replay a transform: the check does not cover a closure that takes what `Work` lends.
-fn replay_pixels(list: &mut impl Read, c: Single) -> Result<Comparison, Failure> {
-    let mut work = Work::new();
-    let transform = work.read(list, &c)?;
-    transform.replay_pixels()
-}
-
-fn replay_color_table(list: &mut impl Read, c: Single) -> Result<Comparison, Failure> {
-    let mut work = Work::new();
-    let transform = work.read(list, &c)?;
-    transform.replay_color_table(c.size as usize)
-}
-
-fn replay_color_map(list: &mut impl Read, c: Single) -> Result<Comparison, Failure> {
-    let mut work = Work::new();
-    let transform = work.read(list, &c)?;
-    transform.replay_color_map()
-}
-
-// Chain, data, input and output of a case on a chain.
-#[derive(Clone, Copy)]
-struct Buffers {
-    chain: [u8; MOST],
-    data: [u8; MOST],
-    input: [u8; MOST],
-    output: [u8; MOST],
-}
-
-impl Buffers {
-    fn new() -> Buffers {
-        Buffers {
-            chain: [0; MOST],
-            data: [0; MOST],
-            input: [0; MOST],
-            output: [0; MOST],
-        }
-    }
-
-    // Input and output as they follow in the list, beside what the picture is stored by.
-    fn read<'a>(
+    // Input and output of a case on a chain as they follow in the list, beside what the picture is stored by.
+    fn read_on_chain<'a>(
         &'a mut self,
         list: &mut impl Read,
         c: OnChain,
@@ -119,18 +85,48 @@ impl Buffers {
     }
 }
 
+// A function for each way to replay a transform: the check does not cover a closure that takes what the buffers lend.
+fn replay_pixels(
+    list: &mut impl Read,
+    buffers: &mut Buffers,
+    c: Single,
+) -> Result<Comparison, Failure> {
+    let transform = buffers.read_single(list, &c)?;
+    transform.replay_pixels()
+}
+
+fn replay_color_table(
+    list: &mut impl Read,
+    buffers: &mut Buffers,
+    c: Single,
+) -> Result<Comparison, Failure> {
+    let transform = buffers.read_single(list, &c)?;
+    transform.replay_color_table(c.size as usize)
+}
+
+fn replay_color_map(
+    list: &mut impl Read,
+    buffers: &mut Buffers,
+    c: Single,
+) -> Result<Comparison, Failure> {
+    let transform = buffers.read_single(list, &c)?;
+    transform.replay_color_map()
+}
+
 // Rebuilding goes in the input's buffer.
-fn replay_rebuild(list: &mut impl Read, c: Call) -> Result<Compared, Failure> {
-    let mut buffers = Buffers::new();
-    let (stored, image, output) = buffers.read(list, c.parts)?;
+fn replay_rebuild(
+    list: &mut impl Read,
+    buffers: &mut Buffers,
+    c: Call,
+) -> Result<Compared, Failure> {
+    let (stored, image, output) = buffers.read_on_chain(list, c.parts)?;
     let answer = Answer::from(stored.rebuild(image)).compare(c.answer);
     Ok(answer.and(Compared::bytes(image, output)))
 }
 
 // Storing goes into a strip that is not zero.
-fn replay_store(list: &mut impl Read, c: Call) -> Result<Compared, Failure> {
-    let mut buffers = Buffers::new();
-    let (stored, picture, output) = buffers.read(list, c.parts)?;
+fn replay_store(list: &mut impl Read, buffers: &mut Buffers, c: Call) -> Result<Compared, Failure> {
+    let (stored, picture, output) = buffers.read_on_chain(list, c.parts)?;
     let mut strip = [165u8; MOST];
     let strip = front(&mut strip, output.len())?;
     let answer = Answer::from(stored.store(picture, strip)).compare(c.answer);
@@ -138,9 +134,12 @@ fn replay_store(list: &mut impl Read, c: Call) -> Result<Compared, Failure> {
 }
 
 // A list of retouches: its answers, and what it leaves of picture and strip.
-fn replay_retouches(list: &mut impl Read, c: Retouches) -> Result<Compared, Failure> {
-    let mut buffers = Buffers::new();
-    let (stored, picture, strip) = buffers.read(list, c.parts)?;
+fn replay_retouches(
+    list: &mut impl Read,
+    buffers: &mut Buffers,
+    c: Retouches,
+) -> Result<Compared, Failure> {
+    let (stored, picture, strip) = buffers.read_on_chain(list, c.parts)?;
     let mut retouched = Retouched {
         stored,
         picture,
@@ -166,7 +165,10 @@ fn replay_reports(list: &mut impl Read, c: Reports) -> Result<Compared, Failure>
 }
 
 // The next case; none at the list's end.
-pub fn replay_next(list: &mut impl BufRead) -> Result<Option<(Kind, Comparison)>, Failure> {
+pub fn replay_next(
+    list: &mut impl BufRead,
+    buffers: &mut Buffers,
+) -> Result<Option<(Kind, Comparison)>, Failure> {
     if list.fill_buf()?.is_empty() {
         return Ok(None);
     }
@@ -175,13 +177,13 @@ pub fn replay_next(list: &mut impl BufRead) -> Result<Option<(Kind, Comparison)>
     let kind = Kind::try_from(header[0])?;
     let comparison = match kind {
         Kind::Predictor | Kind::Color | Kind::SubtractGreen => {
-            replay_pixels(list, Single::from(&header))?
+            replay_pixels(list, buffers, Single::from(&header))?
         }
-        Kind::ColorTable => replay_color_table(list, Single::from(&header))?,
-        Kind::ColorMap => replay_color_map(list, Single::from(&header))?,
-        Kind::Rebuild => replay_rebuild(list, Call::from(&header))?.into(),
-        Kind::Store => replay_store(list, Call::from(&header))?.into(),
-        Kind::Retouches => replay_retouches(list, Retouches::from(&header))?.into(),
+        Kind::ColorTable => replay_color_table(list, buffers, Single::from(&header))?,
+        Kind::ColorMap => replay_color_map(list, buffers, Single::from(&header))?,
+        Kind::Rebuild => replay_rebuild(list, buffers, Call::from(&header))?.into(),
+        Kind::Store => replay_store(list, buffers, Call::from(&header))?.into(),
+        Kind::Retouches => replay_retouches(list, buffers, Retouches::from(&header))?.into(),
         Kind::Reports => replay_reports(list, Reports::from(&header))?.into(),
     };
     Ok(Some((kind, comparison)))

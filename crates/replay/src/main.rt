@@ -18,7 +18,7 @@ mod transforms;
 
 use case::KINDS;
 use failure::Failure;
-use list::replay_next;
+use list::{Buffers, replay_next};
 use std::io;
 use std::io::BufRead;
 use tally::Tally;
@@ -26,8 +26,9 @@ use tally::Tally;
 // A proved loop has to end, and nothing says that an input does: the turns are counted, up to a number that no run
 // reaches.
 fn replay_all(list: &mut impl BufRead, tallies: &mut [Tally; KINDS.len()]) -> Result<(), Failure> {
+    let mut buffers = Buffers::new();
     for _ in 0..u64::MAX {
-        let Some((kind, found)) = replay_next(list)? else {
+        let Some((kind, found)) = replay_next(list, &mut buffers)? else {
             break;
         };
         tallies[kind as usize].add(found);

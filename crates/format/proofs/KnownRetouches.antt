@@ -16,7 +16,8 @@ use Rattle.format.specs.Color.{transform_color, inverse_color, color_stored, col
 use Rattle.format.specs.SubtractGreen.{green_stored, green_rebuilt}
 use Rattle.format.specs.ColorTable.{per_pixel, index_in, unpacked, lowest, digits, packed}
 use Rattle.format.specs.Chain.{step_at, record_at, by_kind, narrowed, width_at}
-use Rattle.format.specs.Refusals.{tabled, tabled_length, checked, records_refusal, size_refusal, chain_refusal, input_refusal}
+use Rattle.format.specs.declared.Refusal.TheVariants.{NoRecord}
+use Rattle.format.specs.Refusals.{number, tabled, tabled_length, checked, records_refusal, size_refusal, chain_refusal, input_refusal}
 use Rattle.format.specs.Stages.{forward, backward, stored, rebuilt, takes, accepts}
 use Rattle.format.specs.Made.{made_item, made, named_by, named, columns, made_of, takes_item, missing}
 use Rattle.format.specs.Retouch.{spots_of, spot_records, unmade, remade, new_strip, changes, point_answer}
@@ -108,6 +109,11 @@ making r = made_item (step_at (table 5) 4) (reds 5) 1 (pixels gap) r
 abbrev item_of : Option Pixel → List ℕ
 item_of (Some v) = one v
 item_of None = []
+
+-- what a retouch answers for making it
+abbrev number_of : Option Pixel → ℕ
+number_of (Some v) = 0
+number_of None = number NoRecord
 
 abbrev columns_of : List Retouch → List ℕ
 columns_of cs = map (λ (c : Retouch). c.x) cs
@@ -204,6 +210,7 @@ worked =
     ∷ (naming 10 0 2 is 5 ∷ [])
     ∷ (naming 3 4 1 is 5 ∷ [])
     -- a record that can be made, and one that cannot
+    ∷ (number_of (making 0) ∷ number_of (making 1) ∷ [] is 0 ∷ 22 ∷ [])
     ∷ (item_of (making 0) ++ item_of (making 1) is 0 ∷ 16 ∷ 0 ∷ 255 ∷ [])
     -- 22, the table before the predictor: of the first ten pixels of 5 by 3 these, lacking an entry, refuse a retouch
     -- of the middle one: 8 in a spot's record and, in mode 9, those that a spot's prediction names

@@ -39,6 +39,17 @@ base_of size n u l p q =
 pub range_shift : (n : ℕ) → Places n → 1 * 2 ^ (8 / n) % 18446744073709551616 ≡ range n
 range_shift n h = by_places (λ m. 1 * 2 ^ (8 / m) % 18446744073709551616 ≡ range m) refl refl refl refl n h
 
+-- n digits x are x times n digits 1
+pub ones : (n x : ℕ) → Places n → x < range n → (x * (255 / (range n - 1)) < 256) × (x * (255 / (range n - 1)) ≡ digits (range n) n (λ k. x))
+unfolding digits
+ones n x h l =
+    by_places (λ m. x < range m → (x * (255 / (range m - 1)) < 256) × (x * (255 / (range m - 1)) ≡ digits (range m) m (λ k. x)))
+    (λ l. (omega arith, omega arith))
+    (λ l. (omega arith, omega arith))
+    (λ l. (omega arith, omega arith))
+    (λ l. (omega arith, omega arith))
+    n h l
+
 -- digits from the lowest on: none, and a sum with one more
 
 pub digits_none : (u : ℕ) (g : ℕ → ℕ) → 0 ≡ digits u 0 g

@@ -27,7 +27,7 @@ use Rattle.std.proofs.lemmas.List.Edits.{length-between}
 use Rattle.store.proofs.Packed.{row_entries}
 
 -- two buffers that hold the n pixels alone
-whole_written : (n : ℕ) (f : Picture) (xs ys : List ℕ) → length xs ≡ 4 * n → length ys ≡ 4 * n → written n f xs ≡ written n f ys
+pub whole_written : (n : ℕ) (f : Picture) (xs ys : List ℕ) → length xs ≡ 4 * n → length ys ≡ 4 * n → written n f xs ≡ written n f ys
 unfolding written
 whole_written zero f [] [] p q = refl
 whole_written zero f [] (y ∷ ys) p q = absurd (omega arith)

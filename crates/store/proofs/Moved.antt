@@ -1,23 +1,19 @@
 -- Pixels that the library's copies leave.
-use mathlib.Core.List.{List}
+use mathlib.Core.List.{List, ◌++◌}
 use mathlib.Core.Path.{◌≡◌, ap, ◌∙◌}
-use Prim.Native.Nat.{ℕ, ◌+◌, ◌-◌, ◌*◌, ◌<◌, ◌≤◌}
+use Prim.Native.Nat.{ℕ, ◌+◌, ◌*◌, ◌<◌, ◌≤◌}
 use native.Mathlib.Omega.{arith}
-use Rattle.std.specs.List.{CopiedTo}
-use Rattle.format.specs.Picture.{byte_at, pixels}
+use lib.ListN.{length, take, drop, length-drop}
+use lib.Seq.{length-take-le}
+use Rattle.format.specs.Picture.{pixels}
+use Rattle.format.proofs.Written.{pixels_same}
+use Rattle.pixel.proofs.Part.{pixel_part}
+use Rattle.store.proofs.Lent.{pixel_first}
 
--- the second of two rows of w pixels in the place of the first
-pub moved : (w n : ℕ) (xs ys : List ℕ) → CopiedTo xs ys (4 * w) 0 n → 4 * w ≤ n → (x : ℕ) → x < w → pixels ys x ≡ pixels xs (w + x)
-unfolding pixels
-moved w n xs ys h m x l =
-    let at : (k : ℕ) → k < 4 * w → byte_at ys k ≡ byte_at xs (4 * w + (k - 0)) = λ k u. h k 0 (omega arith) (omega arith) in
-    let e0 : 4 * w + (4 * x - 0) ≡ 4 * (w + x) = omega arith in
-    let e1 : 4 * w + (4 * x + 1 - 0) ≡ 4 * (w + x) + 1 = omega arith in
-    let e2 : 4 * w + (4 * x + 2 - 0) ≡ 4 * (w + x) + 2 = omega arith in
-    let e3 : 4 * w + (4 * x + 3 - 0) ≡ 4 * (w + x) + 3 = omega arith in
-    cc (
-      at (4 * x) (omega arith) ∙ ap (byte_at xs) e0,
-      at (4 * x + 1) (omega arith) ∙ ap (byte_at xs) e1,
-      at (4 * x + 2) (omega arith) ∙ ap (byte_at xs) e2,
-      at (4 * x + 3) (omega arith) ∙ ap (byte_at xs) e3,
-    )
+-- the second of two rows of w pixels in the place of the first, where these were lent apart
+pub moved : (w : ℕ) (xs first second : List ℕ) → second ≡ drop (4 * w) xs → first ≡ take (4 * w) second → 8 * w ≤ length xs
+    → (x : ℕ) → x < w → pixels (first ++ second) x ≡ pixels xs (w + x)
+moved w xs first second p q fits x l =
+    let e = q ∙ ap (take (4 * w)) p in
+    let long : length first ≡ 4 * w = ap (λ (ys : List ℕ). length ys) e ∙ length-take-le (4 * w) (drop (4 * w) xs) (omega (arith, length-drop (4 * w) xs)) in
+    pixel_first first second x (omega arith) ∙ pixels_same e x ∙ pixel_part w (4 * w) xs (omega arith) x (omega arith)

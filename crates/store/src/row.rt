@@ -8,7 +8,7 @@ ghost use Rattle.chain.specs.Valid.{width_after};
 ghost use Rattle.store.specs.Stage.{step_of, IsTable};
 ghost use Rattle.store.specs.Turns.{AcceptsIn};
 
-use crate::scratch::Scratch;
+use crate::scratch::{Scratch, copy_row};
 use crate::storing::Storing;
 use pixel::row::row_bytes;
 
@@ -76,7 +76,7 @@ impl<'a> Accepted<'a> {
             return 1;
         }
         let from = self.storing.picture_row(y);
-        row[..from.len()].copy_from_slice(from);
+        copy_row(from, &mut row[..from.len()]);
         0
     }
 

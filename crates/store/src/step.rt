@@ -5,7 +5,7 @@ ghost use Rattle.format.specs.Picture.{pixels};
 ghost use Rattle.format.specs.ColorTable.{have_entries};
 ghost use Rattle.store.specs.Stage.{Takes, PredictedRow, PackedBy, Same, Advanced};
 
-use crate::scratch::Scratch;
+use crate::scratch::{Scratch, copy_row};
 use crate::storing::Storing;
 use color_table::lookup::Lookup;
 use format::TransformType;
@@ -23,13 +23,15 @@ fn predict_row(blocks: &Blocks, y: usize, row: &mut [u8], rows: &mut [u8])
 {
     let bytes = 4 * blocks.width;
     let row = &mut row[..bytes];
-    let rows = &mut rows[..2 * bytes];
-    rows[bytes..].copy_from_slice(row);
-    predictor::forward::store_row(rows, row, blocks, y);
-    rows.copy_within(bytes.., 0);
+    copy_row(row, &mut rows[bytes..2 * bytes]);
+    predictor::forward::store_row(&rows[..2 * bytes], row, blocks, y);
+    let (above, behind) = rows.split_at_mut(bytes);
+    copy_row(&behind[..bytes], above);
 }
 
-// Indices, packed in `free` and copied back.
+// Indices, packed in `free` and copied back. Not inlined, since both are parts of one scratch, a fixed way apart: known,
+// that makes `memmove` of a copy of words too.
+#[inline(never)]
 fn pack_accepted(lookup: &Lookup, width: usize, row: &mut [u8], free: &mut [u8])
     requires room { (1 ≤ width) × (width ≤ 16384) × (length row.old ≡ 65536) × (length free.old ≡ 65536) }
     requires accepted { have_entries lookup.now.entries.size (pixels lookup.now.entries.bytes.now) width
@@ -38,7 +40,7 @@ fn pack_accepted(lookup: &Lookup, width: usize, row: &mut [u8], free: &mut [u8])
 {
     lookup.pack_row(&row[..4 * width], free);
     let n = 4 * packed_width(Expanded(width), lookup.entries.size).0;
-    row[..n].copy_from_slice(&free[..n]);
+    copy_row(&free[..n], &mut row[..n]);
 }
 
 impl<'a> Storing<'a> {

@@ -25,5 +25,5 @@ returns c =
     let f = packed_few l.entries.size w r.0 r.1 in
     let n = c.packed_width-n.ensures in
     copied_back (packed_width l.entries.size w) _ (packed w l.entries.size (pixels l.entries.bytes.now) (pixels (take (4 * w) row))) c.args.free.now _
-    row _ (rw (front_count w row (omega (arith, r.2))) at c.pack_row.ensures) c.copy_from_slice.ensures.after (omega arith) (omega (arith, r.3)) x i
+    row _ (rw (front_count w row (omega (arith, r.2))) at c.pack_row.ensures) c.copy_row.ensures (omega arith) (omega (arith, r.3)) x i
     ∙ packed_front w l.entries.size _ (4 * w) row r.0 (omega arith) x i

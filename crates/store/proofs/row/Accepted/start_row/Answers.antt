@@ -21,8 +21,8 @@ pub returns : goal.returns
 returns c =
     let a = c.args.self.now in
     let r = c.picture_row-from.ensures in
-    let z = c.copy_from_slice.new.self in
-    let e = c.copy_from_slice.ensures.after in
+    let z = c.copy_row.new.to in
+    let e = c.copy_row.ensures in
     let n = (chain_of a).valid.sized.narrow in
     let o = c.requires.1 in
     started_none a _ _

@@ -22,7 +22,7 @@ use Rattle.store.specs.declared.row.Accepted.{Accepted}
 use Rattle.chain.specs.Valid.{width_after}
 use Rattle.chain.proofs.Valid.{after_fits}
 use Rattle.store.specs.Stage.{Same}
-use Rattle.store.specs.Made.{chain_of, height_of, stage, RowOf, RowMade, HoldsMade, made_in}
+use Rattle.store.specs.Made.{chain_of, height_of, stage, RowIn, RowMade, HoldsMade, made_in}
 use Rattle.std.proofs.lemmas.List.Edits.{length-between}
 use Rattle.store.proofs.Packed.{row_entries}
 
@@ -58,7 +58,7 @@ pub stage_narrow : (a : Accepted) → a.width ≤ 16384
 stage_narrow a = let v = chain_of a in rw a.wide (after_fits v.chain _ v.valid a.count a.few)
 
 -- row y of the stage after n records, whose number is known
-pub row_known : (a : Accepted) (k n w y : ℕ) (row : List ℕ) → w ≡ width_after (chain_of a).chain n → n ≡ k → RowOf a k y row → HoldsRow (stage a n) y w row
+pub row_known : (a : Accepted) (k n w y : ℕ) (row : List ℕ) → w ≡ width_after (chain_of a).chain n → n ≡ k → RowIn a k y row → HoldsRow (stage a n) y w row
 row_known a k n w y row e q h = rw (e, q) h
 
 -- the rows of a stage in a strip, where those before y are there

@@ -12,7 +12,7 @@ use Rattle.pixel.specs.Held.{HoldsRow}
 use Rattle.color_table.specs.declared.lookup.Lookup.{Lookup}
 use Rattle.chain.specs.declared.record.ValidChain.{ValidChain}
 use Rattle.store.specs.declared.table.Table.{Table}
-use Rattle.chain.specs.Valid.{steps_of}
+use Rattle.chain.specs.Valid.{steps_of, width_after, stored_by}
 
 -- record k of v
 abbrev pub step_of : ValidChain → ℕ → Step
@@ -49,6 +49,27 @@ pub record Advanced (v : ValidChain) (k y : ℕ) (row rows row' rows' : List ℕ
   pub left : (f : Picture) → HoldsRow f y (step_of v k).width row → (step_of v k).kind ≡ 0
       → HoldsRow f y (step_of v k).width rows'
   pub kept : ((step_of v k).kind ≡ 0 → ⊥) → Same 16384 rows rows'
+
+-- the first records, whatever the picture f
+
+-- row begins with row y of the stage after k records
+abbrev pub RowOf : ValidChain → ℕ → Picture → ℕ → List ℕ → Type 0
+RowOf v k f y row = HoldsRow (stored_by v.chain v.«data».now k f) y (width_after v.chain k) row
+
+-- row y is at hand after r of m records: none, or the first, which is then a table
+pub record Started (v : ValidChain) (m : ℕ) (f : Picture) (y r : ℕ) (row : List ℕ) : Type 0 where
+  pub few : r ≤ m
+  pub first : r ≤ 1
+  pub table : 1 ≤ r → (step_of v 0).kind ≡ 3
+  pub held : RowOf v r f y row
+
+-- rows holds, for a predictor among the first k of m records, row y of its stage, and for one that is to come the row
+-- above
+pub record Above (v : ValidChain) (f : Picture) (m k y : ℕ) (rows : List ℕ) : Type 0 where
+  pub done : (j : ℕ) → j < k → (step_of v j).kind ≡ 0
+      → HoldsRow (stored_by v.chain v.«data».now j f) y (step_of v j).width rows
+  pub wait : (j : ℕ) → k ≤ j → j < m → (step_of v j).kind ≡ 0 → 1 ≤ y
+      → HoldsRow (stored_by v.chain v.«data».now j f) (y - 1) (step_of v j).width rows
 
 -- the table of a chain
 

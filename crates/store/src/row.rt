@@ -53,13 +53,13 @@ impl<'a> Storing<'a> {
 }
 
 impl<'a> Accepted<'a> {
-    ghost use Rattle.store.specs.Made.{chain_of, height_of, RowOf, Started, Above, RowMade};
+    ghost use Rattle.store.specs.Made.{chain_of, height_of, RowIn, StartedIn, AboveIn, RowMade};
 
     // Row y of the picture packed in `out`, where the first record is a table.
     pub fn pack_first(&self, y: usize, out: &mut [u8])
         requires first { IsTable (chain_of self.now) 0 × (1 ≤ self.now.count) }
         requires inside { (y < height_of self.now) × (4 * narrowed (step_of (chain_of self.now) 0) ≤ length out.old) }
-        ensures { RowOf self.now 1 y out.new }
+        ensures { RowIn self.now 1 y out.new }
     {
         let storing = self.storing;
         storing.lookup(0).pack_row(storing.picture_row(y), out);
@@ -69,7 +69,7 @@ impl<'a> Accepted<'a> {
     // records done is returned.
     fn start_row(&self, y: usize, row: &mut [u8]) -> usize
         requires { (y < height_of self.now) × (length row.old ≡ 65536) }
-        ensures { Started self.now y result row.new }
+        ensures { StartedIn self.now y result row.new }
     {
         if 0 < self.count && self.storing.table_first() {
             self.pack_first(y, row);
@@ -82,9 +82,9 @@ impl<'a> Accepted<'a> {
 
     // Row y after these records, made in the scratch row.
     pub fn make_row(&self, y: usize, scratch: &mut Scratch)
-        requires { (y < height_of self.now) × Above self.now 0 y scratch.old.rows }
+        requires { (y < height_of self.now) × AboveIn self.now 0 y scratch.old.rows }
         ensures made { RowMade self.now y scratch.new.row }
-        ensures left { Above self.now self.now.count y scratch.new.rows }
+        ensures left { AboveIn self.now self.now.count y scratch.new.rows }
     {
         let done = self.start_row(y, &mut scratch.row);
         for k in done..self.count {

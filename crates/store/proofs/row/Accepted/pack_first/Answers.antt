@@ -3,9 +3,8 @@ use mathlib.Core.Path.{◌≡◌, ◌∙◌}
 use Prim.Native.Nat.{◌/◌}
 use native.Mathlib.Omega.{arith}
 use lib.ListN.{length}
-use Rattle.format.specs.Picture.{pixels}
 use Rattle.format.specs.Stages.{stored}
-use Rattle.store.specs.Made.{chain_of}
+use Rattle.store.specs.Made.{chain_of, picture_of}
 use Rattle.store.proofs.Stages.{takes_row}
 use Rattle.store.proofs.Tables.{looked, looked_width}
 use Rattle.store.proofs.Packed.{packed_row}
@@ -28,7 +27,7 @@ pack_row-requires-clause-taken c =
     let t = c.requires.first.0 in
     let q : length c.picture_row.result.now / 4 ≡ v.chain.width.0 = omega (arith, c.picture_row.ensures.1) in
     rw q (looked _ _ _ c.lookup.ensures _ _)
-    ∙ (rw (v.valid.width 0 t.below) at (takes_row a 0 c.args.y _ c.requires.first.1 c.requires.inside.0 c.picture_row.ensures.0 t.kind))
+    ∙ (rw (v.valid.width 0 t.below) at (takes_row v a.count a.few (picture_of a) 0 c.args.y _ a.accepts c.requires.first.1 c.requires.inside.0 c.picture_row.ensures.0 t.kind))
 
 pub returns : goal.returns
 unfolding stored
@@ -39,5 +38,5 @@ returns c =
     let w = v.valid.width 0 t.below in
     let k = c.lookup.ensures in
     let q : length c.picture_row.result.now / 4 ≡ v.chain.width.0 = omega (arith, c.picture_row.ensures.1) in
-    table_made v 0 c.args.y (pixels a.storing.now.picture.now) c.picture_row.result.now c.pack_row.new.out t.kind
+    table_made v 0 c.args.y (picture_of a) c.picture_row.result.now c.pack_row.new.out t.kind
     (rw w (rw (k.size, k.entries) at (packed_row _ _ _ _ _ _ (rw q at c.pack_row.ensures)))) (rw w c.picture_row.ensures.0)

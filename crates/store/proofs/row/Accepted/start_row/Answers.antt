@@ -6,7 +6,7 @@ use native.Mathlib.Omega.{arith}
 use lib.ListN.{length}
 use Rattle.format.proofs.Written.{pixels_same}
 use Rattle.chain.proofs.Valid.{after_fits}
-use Rattle.store.specs.Made.{chain_of}
+use Rattle.store.specs.Made.{chain_of, picture_of}
 use Rattle.store.proofs.Lent.{pixel_first}
 use Rattle.store.proofs.Stages.{started_none}
 use Rattle.store.proofs.row.Accepted.start_row.Goals as goal
@@ -25,7 +25,7 @@ returns c =
     let e = c.copy_row.ensures in
     let n = (chain_of a).valid.sized.narrow in
     let o = c.requires.1 in
-    started_none a _ _
+    started_none (chain_of a) (picture_of a) a.count _ _
     (λ x l. pixel_first z _ x (let full = ap (λ (ys : List ℕ). length ys) e in omega arith)
     ∙ pixels_same e x
     ∙ r.0 x l)

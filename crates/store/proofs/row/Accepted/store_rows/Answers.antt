@@ -11,7 +11,7 @@ use Rattle.store.proofs.Stages.{above_first, above_row}
 use Rattle.store.proofs.row.Accepted.store_rows.Goals as goal
 
 pub loop-y-init : goal.loop-y-init
-loop-y-init c = (no_rows _ _ _, above_first _ _)
+loop-y-init c = (no_rows _ _ _, above_first _ _ _ _)
 
 pub front-requires : goal.front-requires
 front-requires c = stage_narrow c.args.self.now
@@ -23,7 +23,7 @@ loop-y-preserved c =
     let full = ap (λ (ys : List ℕ). length ys) e ∙ c.front.ensures.0 in (
       row_done c.args.self.now l.y _ l.strip l.auto.strip c.requires _ _ c.row_bytes.ensures.0 c.row_bytes.ensures.1 _ c.loop-y-test.true l.invariant.0 full
           (λ x u. pixels_same e x ∙ c.front.ensures.1 x u ∙ c.make_row.ensures.made x u),
-      above_row c.args.self.now l.y _ c.make_row.ensures.left,
+      above_row _ _ _ l.y _ c.make_row.ensures.left,
     )
 
 pub returns : goal.returns

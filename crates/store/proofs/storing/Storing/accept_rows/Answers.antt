@@ -32,7 +32,7 @@ loop-y-preserved c =
     let l = c.loop-y in
     let h = held_same (stage a a.count) l.y a.width _ _ c.front.ensures.1 c.make_row.ensures.made in
     let q : length c.front.result.now / 4 ≡ a.width = omega (arith, c.front.ensures.0) in
-    (entries_more _ a.width l.y _ _ _ l.invariant.0 h (sym (rw q at c.accept.ensures) ∙ c.if-not-accept.false), above_row a l.y _ c.make_row.ensures.left)
+    (entries_more _ a.width l.y _ _ _ l.invariant.0 h (sym (rw q at c.accept.ensures) ∙ c.if-not-accept.false), above_row _ _ _ l.y _ c.make_row.ensures.left)
 
 pub returns : goal.returns
 returns c =

@@ -33,7 +33,7 @@ module _ (w h : ℕ) (picture colors counters : List ℕ) (list : color_list col
   same k l =
       let apart = (and_parts (in_fours colors) (distinct (color_count colors) (pixels colors)) list).1 in
       let f = added_found (color_count colors) (pixels colors) apart (h * w) (pixels picture) k (omega arith) in
-      ap (λ (n : ℕ). counter counters k + n) (c k (omega arith) ∙ sym f)
+      ap (λ (n : ℕ). counter counters k + n) (c.found k (omega arith) ∙ sym f)
 
   fits : sums_fit n (counter counters) counts ≡ every n (λ k. ltb (grows k) (2 ^ 64))
   fits = every_same n _ _ (λ k l. rw (same k l))

@@ -1,5 +1,5 @@
 -- Counts of a picture's pixels, and what becomes of them and of the counters.
-use Rattle.std.specs.Prelude.{Bool, List, ◌≡◌, ℕ, ◌+◌, ◌^◌, ◌<◌, ◌≤◌, eqb, ltb, get_or, if◌then◌else◌}
+use Rattle.std.specs.Prelude.{Bool, List, ◌≡◌, ℕ, ◌+◌, ◌^◌, ◌<◌, ◌≤◌, eqb, ltb, length, get_or, if◌then◌else◌}
 use Rattle.format.specs.Choice.{every}
 use Rattle.format.specs.Indices.{how_many}
 use Rattle.format.specs.Picture.{Picture}
@@ -17,8 +17,9 @@ abbrev pub most_pixels : ℕ
 most_pixels = 268435456
 
 -- how many of the first i pixels of f are found at each of m colors, and at none of them, which is index m
-abbrev pub Counted : ℕ → Picture → ℕ → Picture → List ℕ → Type 0
-Counted m e i f counts = (k : ℕ) → k ≤ m → at counts k ≡ how_many i (λ q. eqb (index_of m e (f q)) k)
+pub record Counted (m : ℕ) (e : Picture) (i : ℕ) (f : Picture) (counts : List ℕ) : Type 0 where
+  pub full : length counts ≡ 257
+  pub found : (k : ℕ) → k ≤ m → at counts k ≡ how_many i (λ q. eqb (index_of m e (f q)) k)
 
 -- what counter k holds and what was counted for it
 abbrev pub sum_at : (ℕ → ℕ) → List ℕ → ℕ → ℕ

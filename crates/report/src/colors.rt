@@ -4,7 +4,7 @@ ghost use Rattle.format.specs.Picture.{pixels};
 ghost use Rattle.format.specs.ColorTable.{index_of};
 ghost use Rattle.format.specs.Refusals.{returned};
 ghost use Rattle.format.specs.Report.{distinct};
-ghost use Rattle.report.specs.Listed.{list_answer, ListOf};
+ghost use Rattle.report.specs.Listed.{length_answer, ColorsOf, distinct_answer};
 
 use color_map::refused_length;
 use color_table::lookup::Lookup;
@@ -27,21 +27,26 @@ fn distinct(list: &Lookup) -> bool
     (0..list.entries.size).all(|k| place(list, Word::at(list.entries.bytes, k)) == k)
 }
 
-// Test 23: the list of colors, which may have the lengths of a color map.
-#[tactic(auto, unfolding(format::specs::Report::color_list))]
-pub fn list_of(colors: &[u8]) -> Result<Lookup<'_>, Refusal>
-    ensures refusal { returned result ≡ list_answer colors.now }
-    ensures list { IfOk result (ListOf colors.now) }
+// The colors of a list, which may have the lengths of a color map.
+pub fn colors_of(colors: &[u8]) -> Result<Entries<'_>, Refusal>
+    ensures refusal { returned result ≡ length_answer colors.now }
+    ensures colors { IfOk result (ColorsOf colors.now) }
 {
     if refused_length(colors.len()) {
         return Err(Refusal::ColorList);
     }
-    let list = Lookup::new(&Entries {
+    Ok(Entries {
         bytes: colors,
         size: colors.len() / 4,
-    });
-    if !distinct(&list) {
+    })
+}
+
+// The rest of test 23. Two functions, since the look-up in a `Result` would be copied.
+pub fn check_distinct(list: &Lookup) -> Result<(), Refusal>
+    ensures { returned result ≡ distinct_answer list.now }
+{
+    if !distinct(list) {
         return Err(Refusal::ColorList);
     }
-    Ok(list)
+    Ok(())
 }

@@ -18,21 +18,21 @@ fn counter_at(counters: &[u8], k: usize) -> u64
 }
 
 impl Counts {
-    // The counts added to what the counters hold, where no sum passes 2^64 - 1.
+    // The counts added to what the counters hold, where no sum passes 2^64 - 1. In an array that is lent: one in a
+    // `Result` would be copied.
     #[tactic(auto, using(crate::proofs::Sums::sum_past, crate::proofs::Sums::sums_made))]
-    fn sums(&self, counters: &[u8]) -> Result<[u64; 257], Refusal>
-        requires { 8 * self.now.size ≤ length counters.now }
+    fn sums(&self, counters: &[u8], sums: &mut [u64; 257]) -> Result<(), Refusal>
+        requires { (8 * self.now.size ≤ length counters.now) × (length sums.old ≡ 257) }
         ensures refusal { returned result ≡ sums_answer self.now.size (counter counters.now) self.now.numbers }
-        ensures sums { IfOk result (Sums self.now.size (counter counters.now) self.now.numbers) }
+        ensures sums { IfOk result (λ _. Sums self.now.size (counter counters.now) self.now.numbers sums.new) }
     {
-        let mut sums = [0; 257];
         // `try_from_fn` is no plainer: its closure would have to give the numbers past the size too.
         for k in 0..self.size {
             sums[k] = counter_at(counters, k)
                 .checked_add(self.numbers[k])
                 .ok_or(Refusal::FullCounter)?;
         }
-        Ok(sums)
+        Ok(())
     }
 
     // Test 24, then the counters: all sums are known before the first byte is written. That these have room is asked
@@ -43,7 +43,8 @@ impl Counts {
         ensures counters_after { counters.new
             ≡ counters_left self.now.size self.now.numbers counters.old (returned result) }
     {
-        let sums = self.sums(counters)?;
+        let mut sums = self.numbers;
+        self.sums(counters, &mut sums)?;
         fill(
             counters,
             0,

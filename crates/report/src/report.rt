@@ -3,13 +3,14 @@ ghost use Rattle.std.specs.Prelude.{◌≡◌};
 ghost use Rattle.format.specs.Refusals.{returned};
 ghost use Rattle.format.specs.Report.{report_answer, report_counters};
 
-use crate::colors::list_of;
+use crate::colors::{check_distinct, colors_of};
 use crate::count::Counting;
 use chain::check_size;
+use color_table::lookup::Lookup;
 use format::Refusal;
 
 // Tests 1, 23, 8 and 24, then the counters.
-#[tactic(auto, unfolding(format::specs::Report::report_answer, format::specs::Report::report_counters))]
+#[tactic(auto, unfolding(format::specs::Report::report_answer, format::specs::Report::report_counters, format::specs::Report::color_list))]
 pub fn report(
     width: usize,
     height: usize,
@@ -23,7 +24,8 @@ pub fn report(
         counters.old }
 {
     check_size(width, height)?;
-    let list = list_of(colors)?;
+    let list = Lookup::new(&colors_of(colors)?);
+    check_distinct(&list)?;
     let count = height * width;
     if counters.len() < 8 * (list.entries.size + 1) || picture.len() < 4 * count {
         return Err(Refusal::ShortBuffer);

@@ -18,40 +18,41 @@ fn counter_at(counters: &[u8], k: usize) -> u64
 }
 
 impl Counts {
-    // The counts added to what the counters hold, where no sum passes 2^64 - 1. In an array that is lent: one in a
-    // `Result` would be copied.
+    // Each count becomes its sum with what its counter holds, where no sum passes 2^64 - 1. In place: sums in a `Result`
+    // would be copied.
     #[tactic(auto, using(crate::proofs::Sums::sum_past, crate::proofs::Sums::sums_made))]
-    fn sums(&self, counters: &[u8], sums: &mut [u64; 257]) -> Result<(), Refusal>
-        requires { (8 * self.now.size ≤ length counters.now) × (length sums.old ≡ 257) }
-        ensures refusal { returned result ≡ sums_answer self.now.size (counter counters.now) self.now.numbers }
-        ensures sums { IfOk result (λ _. Sums self.now.size (counter counters.now) self.now.numbers sums.new) }
+    fn sums(&mut self, counters: &[u8]) -> Result<(), Refusal>
+        requires { 8 * self.old.size ≤ length counters.now }
+        ensures refusal { returned result ≡ sums_answer self.old.size (counter counters.now) self.old.numbers }
+        ensures sums { IfOk result (λ _. Sums self.old.size (counter counters.now) self.old.numbers self.new.numbers) }
+        ensures size { self.new.size ≡ self.old.size }
     {
-        // `try_from_fn` is no plainer: its closure would have to give the numbers past the size too.
+        // By the index, since what an `iter_mut` wrote is not covered.
         for k in 0..self.size {
-            sums[k] = counter_at(counters, k)
+            self.numbers[k] = counter_at(counters, k)
                 .checked_add(self.numbers[k])
                 .ok_or(Refusal::FullCounter)?;
         }
         Ok(())
     }
 
-    // Test 24, then the counters: all sums are known before the first byte is written. That these have room is asked
-    // here and of `sums`: a struct around the lent counters would have to say what of them stays.
-    pub fn add_to(&self, counters: &mut [u8]) -> Result<(), Refusal>
-        requires { 8 * self.now.size ≤ length counters.old }
-        ensures value { returned result ≡ sums_answer self.now.size (counter counters.old) self.now.numbers }
+    // Test 24, then the counters: all sums are known before the first byte is written, and stand where the counts stood.
+    // That the counters have room is asked here and of `sums`: a struct around them would have to say what of them stays.
+    pub fn add_to(&mut self, counters: &mut [u8]) -> Result<(), Refusal>
+        requires { 8 * self.old.size ≤ length counters.old }
+        ensures value { returned result ≡ sums_answer self.old.size (counter counters.old) self.old.numbers }
         ensures counters_after { counters.new
-            ≡ counters_left self.now.size self.now.numbers counters.old (returned result) }
+            ≡ counters_left self.old.size self.old.numbers counters.old (returned result) }
     {
-        let mut sums = self.numbers;
-        self.sums(counters, &mut sums)?;
+        self.sums(counters)?;
+        let sums = &self.numbers;
         fill(
             counters,
             0,
             8 * self.size,
             |i: usize| -> u8
                 requires { i / 8 < 257 }
-                ensures { result ≡ counter_byte (at sums) i }
+                ensures { result ≡ counter_byte (at sums.entry.now) i }
             { sums[i / 8].to_le_bytes()[i % 8] },
         );
         Ok(())

@@ -18,8 +18,8 @@ fn counter_at(counters: &[u8], k: usize) -> u64
 }
 
 impl Counts {
-    // Each count becomes its sum with what its counter holds, where no sum passes 2^64 - 1. In place: sums in a `Result`
-    // would be copied.
+    // Each count becomes its sum with what its counter holds, where no sum passes 2^64 - 1. In place: an array in a
+    // `Result` would be copied.
     #[tactic(auto, using(crate::proofs::Sums::sum_past, crate::proofs::Sums::sums_made))]
     fn sums(&mut self, counters: &[u8]) -> Result<(), Refusal>
         requires { 8 * self.old.size ≤ length counters.now }
@@ -36,8 +36,9 @@ impl Counts {
         Ok(())
     }
 
-    // Test 24, then the counters: all sums are known before the first byte is written, and stand where the counts stood.
-    // That the counters have room is asked here and of `sums`: a struct around them would have to say what of them stays.
+    // Test 24, then the counters: all sums are known before the first byte is written, in place of the counts. That
+    // the counters have room is asked here and of `sums`: a struct around the lent ones would have to say what of them
+    // stays.
     pub fn add_to(&mut self, counters: &mut [u8]) -> Result<(), Refusal>
         requires { 8 * self.old.size ≤ length counters.old }
         ensures value { returned result ≡ sums_answer self.old.size (counter counters.old) self.old.numbers }

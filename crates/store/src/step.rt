@@ -29,8 +29,8 @@ fn predict_row(blocks: &Blocks, y: usize, row: &mut [u8], rows: &mut [u8])
     copy_row(&behind[..bytes], above);
 }
 
-// Indices, packed in `free` and copied back. Not inlined, since both are parts of one scratch, a fixed way apart: known,
-// that makes `memmove` of a copy of words too.
+// Indices, packed in `free` and copied back. Not inlined: where the compiler sees that both are parts of one scratch, a
+// fixed way apart, it makes `memmove` of a copy of words too.
 #[inline(never)]
 fn pack_accepted(lookup: &Lookup, width: usize, row: &mut [u8], free: &mut [u8])
     requires room { (1 ≤ width) × (width ≤ 16384) × (length row.old ≡ 65536) × (length free.old ≡ 65536) }

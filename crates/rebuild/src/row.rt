@@ -1,5 +1,7 @@
 // One row of one record, in the one buffer.
 ghost use Rattle.std.specs.Prelude.{◌≡◌, ◌<◌};
+ghost use Rattle.format.specs.Sizes.{Holds};
+ghost use Rattle.predictor.specs.Picture.{predictor_row};
 ghost use Rattle.rebuild.specs.Rows.{HasRoom, row_rebuilt};
 ghost use Rattle.rebuild.specs.Inverse.{Inverts};
 
@@ -17,6 +19,16 @@ pub enum Inverse<'a> {
     Color(Blocks<'a>),
     SubtractGreen,
     ColorTable([u8; 8192]),
+}
+
+// Row y of a predicted picture. Not inlined: beside what a loop over rows holds, the loops of a mode run out of
+// registers.
+#[inline(never)]
+fn rebuild_predicted(image: &mut [u8], blocks: &Blocks, y: usize)
+    requires { Holds blocks.now.width blocks.now.height image.old × (y < blocks.now.height) }
+    ensures { image.new ≡ predictor_row blocks.now.width blocks.now.bits blocks.now.bytes.now y image.old }
+{
+    predictor::inverse::rebuild_row_at(image, blocks, y);
 }
 
 // A record with its inverse.
@@ -44,7 +56,9 @@ impl<'a> Undoing<'a> {
     }
 
     // Row y. Rows go from the top, since a row is predicted from the row above it; those of a table from the bottom,
-    // since a row's columns may lie where packed pixels of the rows above it stand.
+    // since a row's columns may lie where packed pixels of the rows above it stand. Inlined, so that a loop over rows
+    // finds the kind once.
+    #[inline(always)]
     #[tactic(auto, using(crate::proofs::Rows::rule_0, crate::proofs::Rows::rule_1, crate::proofs::Rows::rule_2))]
     pub fn rebuild_row(&self, y: usize, image: &mut [u8])
         requires { HasRoom self.now.«record» image.old × (y < self.now.«record».height) }
@@ -52,7 +66,7 @@ impl<'a> Undoing<'a> {
     {
         let step = self.record.step;
         match &self.inverse {
-            Inverse::Predictor(blocks) => predictor::inverse::rebuild_row_at(image, blocks, y),
+            Inverse::Predictor(blocks) => rebuild_predicted(image, blocks, y),
             Inverse::Color(blocks) => color::color::rebuild_row_at(image, blocks, y),
             Inverse::SubtractGreen => {
                 color::subtract_green::rebuild_row_at(image, step.width, y)

@@ -39,11 +39,10 @@ impl Counts {
     // Test 24, then the counters: all sums are known before the first byte is written, in place of the counts. That
     // the counters have room is asked here and of `sums`: a struct around the lent ones would have to say what of them
     // stays.
-    pub fn add_to(&mut self, counters: &mut [u8]) -> Result<(), Refusal>
-        requires { 8 * self.old.size ≤ length counters.old }
-        ensures value { returned result ≡ sums_answer self.old.size (counter counters.old) self.old.numbers }
-        ensures counters_after { counters.new
-            ≡ counters_left self.old.size self.old.numbers counters.old (returned result) }
+    pub fn add_to(mut self, counters: &mut [u8]) -> Result<(), Refusal>
+        requires { 8 * self.size ≤ length counters.old }
+        ensures value { returned result ≡ sums_answer self.size (counter counters.old) self.numbers }
+        ensures counters_after { counters.new ≡ counters_left self.size self.numbers counters.old (returned result) }
     {
         self.sums(counters)?;
         let sums = &self.numbers;

@@ -10,5 +10,5 @@ pub returns-clause-counters_after : goal.returns-clause-counters_after
 returns-clause-counters_after c =
     let a = c.args in
     let g = at c.sums.new.self.numbers in
-    counters_run a.self.now.size g _ _ (search (rules, c.fill.ensures (counter_byte g) (λ i v a b p. search rules))) (omega (arith, c.requires))
-    ∙ counters_same a.self.now.size g (sum_at (counter a.counters.now) a.self.now.numbers) a.counters.now (λ k l. (c.in_ok-sums.ensures.sums k l).0)
+    counters_run a.self.size g _ _ (search (rules, c.fill.ensures (counter_byte g) (λ i v a b p. search rules))) (omega (arith, c.requires))
+    ∙ counters_same a.self.size g (sum_at (counter a.counters.now) a.self.numbers) a.counters.now (λ k l. (c.in_ok-sums.ensures.sums k l).0)

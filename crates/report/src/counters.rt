@@ -36,8 +36,8 @@ impl Counts {
         Ok(())
     }
 
-    // Test 24, then the counters: all sums are known before the first byte is written, in place of the counts. That
-    // the counters have room is asked here and of `sums`: a struct around the lent ones would have to say what of them
+    // Test 24, then the counters: all sums are made, in place of the counts, before the first byte is written. That the
+    // counters have room is asked here and of `sums`: a struct around the lent ones would have to say what of them
     // stays.
     pub fn add_to(mut self, counters: &mut [u8]) -> Result<(), Refusal>
         requires { 8 * self.size ≤ length counters.old }

@@ -1,4 +1,4 @@
--- Pixels that the library's copies leave.
+-- Pixels of the second of two rows, moved to the first.
 use mathlib.Core.List.{List, ◌++◌}
 use mathlib.Core.Path.{◌≡◌, ap, ◌∙◌}
 use Prim.Native.Nat.{ℕ, ◌+◌, ◌*◌, ◌<◌, ◌≤◌}
